@@ -20,7 +20,7 @@ use Rattle.ats_client.specs.Groups.{slot_at}
 use Rattle.ats_client.specs.Slots as slots
 use Rattle.ats_client.specs.Slots.{ShowsTerm}
 use Rattle.ats_honest.specs.Terms.{slot_of}
-use Rattle.ats_honest.specs.Present.{standing}
+use Rattle.ats_honest.specs.Inner.Present.{standing}
 use Rattle.ats_honest.specs.Documents.{IsHonestSection, IsTermSpot, shown_term}
 use Rattle.ats_honest.proofs.Public.{lower_item, all_below}
 use Rattle.ats_accepts.proofs.Asking.{Asks, asks_first, asks_later}

@@ -12,7 +12,8 @@ use Rattle.ats_console.specs.declared.stops.Stop.{Stop}
 use Rattle.ats_console.specs.declared.stops.Stop.TheVariants.{Shelf, Memory, Collision}
 use Rattle.ats_console.proofs.Public.{memory_stops, get_stops, try_stops}
 use Rattle.ats_auditors.specs.Collided.{finds_none}
-use Rattle.ats_auditors.specs.Audited.{Audit, AuditStop}
+use Rattle.ats_auditors.specs.Audited.{Audit}
+use Rattle.ats_auditors.specs.Inner.Audited.{AuditStop}
 
 module _ {V P : Type 0} (H : List ℕ → List ℕ) (audit : Audit V P) (bytes : List ℕ) where
   -- the first collision of what was accepted stops it by its lines

@@ -1,7 +1,7 @@
 -- What is accepted has one first collision at most, so it stops a command in one way.
 use Rattle.std.proofs.Common.{◌≡◌, ◌∙◌, ℕ, List, Option, None, Some, sym, ap}
 use Rattle.ats_tree.specs.Differences.{Difference}
-use Rattle.ats_plan.specs.Sound.{IsExact}
+use Rattle.ats_plan.specs.Inner.Sound.{IsExact}
 use Rattle.ats_console.specs.declared.stops.Stop.TheVariants.{Collision}
 use Rattle.ats_auditors.specs.Collided.{StopsByCollision}
 

@@ -5,7 +5,7 @@ use Rattle.ats_tree.specs.Differences.{Difference}
 use Rattle.ats_commit.specs.Archive.{Archive}
 use Rattle.ats_commit.specs.Root.{root_of}
 use Rattle.ats_plan.specs.Plan.{Plan, Tries}
-use Rattle.ats_plan.specs.Sound.{IsExact, IsOne}
+use Rattle.ats_plan.specs.Inner.Sound.{IsExact, IsOne}
 use Rattle.ats_console.specs.Words.{AuditWords, AuditFetchWords, AuditBothWords, AuditGrowthWords, SweepWords, TrialWords}
 use Rattle.ats_console.specs.Stops.{line_of_bad_line}
 use Rattle.ats_console.specs.declared.stops.Stop.{Stop}

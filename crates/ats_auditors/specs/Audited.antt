@@ -1,6 +1,6 @@
 -- The audits of the files of each kind. That a file is read, checked under the roots of archives and searched for a collision
 -- with them is stated once.
-use Rattle.std.specs.Prelude.{◌≡◌, ◌⊎◌, ℕ, List, Option}
+use Rattle.std.specs.Prelude.{ℕ, List, Option}
 use Rattle.ats_tree.specs.Differences.{Difference}
 use Rattle.ats_tree.specs.declared.hashed.Place.{Place}
 use Rattle.ats_commit.specs.Archive.{Archive}
@@ -15,8 +15,7 @@ use Rattle.ats_consistency.specs.Value.{Growth}
 use Rattle.ats_plan.specs.Plan.{Plan}
 use Rattle.ats_console.specs.Kinds.{Kind, proof_kind, both_kind, text_kind, growth_kind, checks_named}
 use Rattle.ats_console.specs.declared.stops.Stop.{Stop}
-use Rattle.ats_console.specs.declared.stops.Stop.TheVariants.{Memory}
-use Rattle.ats_auditors.specs.Collided.{StopsByCollision, finds_none, lines_of_proof_collision, lines_of_text_collision, lines_of_growth_collision}
+use Rattle.ats_auditors.specs.Collided.{finds_none, lines_of_proof_collision, lines_of_text_collision, lines_of_growth_collision}
 
 -- an audit against some archives: the kind of the file under their roots, the first collision of what it says with them, and
 -- the lines of a collision
@@ -60,8 +59,3 @@ growth_audit H older newer = record {
 -- the named file is read, what its bytes say is accepted, and it has no collision
 abbrev pub audits_named : {V P : Type 0} → (List ℕ → List ℕ) → Audit V P → (name : List ℕ) → (V → Plan Stop) → Plan Stop
 audits_named H audit name rest = checks_named audit.kind name (λ v. finds_none H (audit.first v) audit.lines_of (rest v))
-
--- why bytes are not found right: memory ran out, or they are rejected, or what they say has a collision
-abbrev pub AuditStop : {V P : Type 0} → (List ℕ → List ℕ) → Audit V P → (bytes : List ℕ) → Stop → Type 0
-AuditStop {V} H audit bytes stop = (stop ≡ Memory) ⊎ (audit.kind.rejects bytes stop
-    ⊎ ((v : V) × audit.kind.accepted bytes v × StopsByCollision H (audit.first v) audit.lines_of stop))

@@ -2,3 +2,4 @@
 
 pub mod Sweeping
 pub mod Trial
+pub mod Audited

@@ -6,7 +6,8 @@ ghost use Rattle.ats_audit.specs.Verdicts.{IsFoundRight};
 ghost use Rattle.ats_plan.specs.Plan.{ComesToShelf};
 ghost use Rattle.ats_plan.specs.Runs.{IsDone, IsStopped};
 ghost use Rattle.ats_console.specs.Print.{lines};
-ghost use Rattle.ats_auditors.specs.Audited.{AuditStop, proof_audit};
+ghost use Rattle.ats_auditors.specs.Audited.{proof_audit};
+ghost use Rattle.ats_auditors.specs.Inner.Audited.{AuditStop};
 ghost use Rattle.ats_auditors.specs.Commands.Audit.{audit_plan};
 ghost use Rattle.ats_console.specs.declared.stops.Stop.TheVariants.{Shelf as AtShelf, Memory};
 

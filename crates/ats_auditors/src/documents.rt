@@ -6,7 +6,8 @@ ghost use Rattle.ats_plan.specs.Plan.{ComesToShelf};
 ghost use Rattle.ats_plan.specs.Runs.{IsDone, IsStopped};
 ghost use Rattle.ats_console.specs.Print.{lines_of_documents};
 ghost use Rattle.ats_console.specs.declared.stops.Stop.TheVariants.{Shelf as AtShelf, Memory};
-ghost use Rattle.ats_auditors.specs.Audited.{AuditStop, both_audit};
+ghost use Rattle.ats_auditors.specs.Audited.{both_audit};
+ghost use Rattle.ats_auditors.specs.Inner.Audited.{AuditStop};
 ghost use Rattle.ats_auditors.specs.Commands.AuditBoth.{audit_both_plan};
 
 use ats_base::Shelf;

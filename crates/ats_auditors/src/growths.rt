@@ -7,7 +7,8 @@ ghost use Rattle.ats_plan.specs.Runs.{IsDone, IsStopped};
 ghost use Rattle.ats_console.specs.Kinds.{line_of_grown};
 ghost use Rattle.ats_console.specs.declared.stops.Stop.TheVariants.{Shelf as AtShelf, Memory};
 ghost use Rattle.ats_auditors.specs.Collided.{lines_of_growth_collision};
-ghost use Rattle.ats_auditors.specs.Audited.{AuditStop, growth_audit};
+ghost use Rattle.ats_auditors.specs.Audited.{growth_audit};
+ghost use Rattle.ats_auditors.specs.Inner.Audited.{AuditStop};
 ghost use Rattle.ats_auditors.specs.Commands.AuditGrowth.{audit_growth_plan};
 
 use ats_base::Shelf;

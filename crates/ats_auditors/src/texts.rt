@@ -7,7 +7,8 @@ ghost use Rattle.ats_plan.specs.Runs.{IsDone, IsStopped};
 ghost use Rattle.ats_console.specs.Kinds.{printed_text};
 ghost use Rattle.ats_console.specs.declared.stops.Stop.TheVariants.{Shelf as AtShelf, Memory};
 ghost use Rattle.ats_auditors.specs.Collided.{lines_of_text_collision};
-ghost use Rattle.ats_auditors.specs.Audited.{AuditStop, text_audit};
+ghost use Rattle.ats_auditors.specs.Audited.{text_audit};
+ghost use Rattle.ats_auditors.specs.Inner.Audited.{AuditStop};
 ghost use Rattle.ats_auditors.specs.Commands.AuditFetch.{audit_fetch_plan};
 
 use ats_base::Shelf;

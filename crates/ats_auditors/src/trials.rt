@@ -5,7 +5,7 @@ ghost use Rattle.ats_commit.specs.Archive.{archive_of};
 ghost use Rattle.ats_impact.specs.Trial.{trial_texts};
 ghost use Rattle.ats_honest.specs.Honest.{IsHonest, IsProved, length_of};
 ghost use Rattle.ats_proof.specs.Value.{Proof};
-ghost use Rattle.ats_console.specs.Making.{MakingStop};
+ghost use Rattle.ats_console.specs.Inner.Making.{MakingStop};
 ghost use Rattle.ats_proof.specs.declared.record.Algorithm.TheVariants.{Tra, Tnra};
 ghost use Rattle.ats_audit.specs.Verdicts.{IsVerdict};
 ghost use Rattle.ats_audit.specs.declared.auditing.Verdict.{Verdict};

@@ -3,7 +3,8 @@ use Rattle.std.proofs.Common.{◌≡◌, ◌≤◌, ◌+◌, ◌∙◌, ◌++◌
 use Rattle.std.proofs.lemmas.List.{take-append-drop, drop-drop}
 use Rattle.std.proofs.Math.Seq.{take-append_seam}
 use Rattle.ats_base.specs.Outside.{SinkTold}
-use Rattle.ats_base.specs.Links.{Traffic, Exchanged, Carries, as_link}
+use Rattle.ats_base.specs.Links.{Traffic, Exchanged, Carries}
+use Rattle.ats_base.specs.Inner.Links.{as_link}
 
 carries_none : (before : Option Traffic) → Carries before before [] []
 carries_none None = refl

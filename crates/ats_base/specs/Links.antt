@@ -1,6 +1,5 @@
 -- What links, callers and doors report of themselves, and how calls change it.
 use Rattle.std.specs.Prelude.{◌≡◌, ◌⊎◌, ◌<◌, ◌+◌, ◌-◌, ◌^◌, ℕ, zero, suc, min, Bool, true, false, List, [], ◌∷◌, ◌++◌, Option, Some, None, MatchOption, IsSome, option_map}
-use Rattle.ats_base.specs.Outside.{SinkTold}
 
 -- What went over a link: the address that was called for it, if there was one; the bytes read so far, those still to
 -- come, and those written.
@@ -124,12 +123,3 @@ accepting_out opening = record opening { accepts = min (opening.accepts + 1) (2 
 -- a link was given back
 abbrev pub accepted_back : LinkTold → Opening → Opening
 accepted_back link opening = record opening { given_back = opening.given_back ++ link ∷ []; out = opening.out - 1 }
-
--- what a sink reports, in the form of a link whose input is empty
-abbrev pub as_link : SinkTold → LinkTold
-as_link sink = record {
-  traffic = option_map (λ taken. record { address = None; read = []; rest = []; written = taken }) sink.taken;
-  calls = sink.calls;
-  faults = sink.faults;
-  last_failed = sink.last_failed;
-}

@@ -16,7 +16,7 @@ use Rattle.ats_client.specs.Accepts.{section_rules}
 use Rattle.ats_client.specs.WholeLists.{shows_whole}
 use Rattle.ats_honest.specs.Documents.{HasDocuments}
 use Rattle.ats_honest.specs.Lanes.{lane_of, lanes_of, present}
-use Rattle.ats_honest.specs.Present.{standing}
+use Rattle.ats_honest.specs.Inner.Present.{standing}
 use Rattle.ats_honest.specs.Terms.{slot_of}
 use Rattle.ats_honest.proofs.Public.{spot_each, standing_present}
 use Rattle.ats_conjunction.specs.Documents.{are_present}

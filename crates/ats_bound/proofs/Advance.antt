@@ -4,7 +4,8 @@ use Rattle.std.proofs.lemmas.Bool.{cases_order}
 use Rattle.ats_bound.specs.declared.walk.Walk.{Walk}
 use Rattle.ats_bound.specs.Settled.{IsSettled}
 use Rattle.ats_bound.specs.Schedule.{WholeLane, Bounding, IsNextLane, IsScheduled, CanSettleBy, IsFirstSettledBy, first_cut}
-use Rattle.ats_bound.specs.Stand.{IsStand, IsEnd, IsReached}
+use Rattle.ats_bound.specs.Stand.{IsStand}
+use Rattle.ats_bound.specs.Inner.Stand.{IsEnd, IsReached}
 use Rattle.ats_bound.proofs.OneCut.{one_schedule}
 
 -- the walk begins at the first cut

@@ -6,7 +6,7 @@ use Rattle.std.proofs.lemmas.Bool.{cases_eq}
 use Rattle.std.proofs.lemmas.Bool.Decides.{nat_tests}
 use Rattle.std.proofs.lemmas.Nat.{mod_below}
 use Rattle.std.proofs.Math.Nat.{div-add-mod}
-use Rattle.ats_bound.specs.Pages.{before, slot_at, slot_in}
+use Rattle.ats_bound.specs.Inner.Pages.{before, slot_at, slot_in}
 
 -- two documents with one page have two cells
 apart : (a b : ℕ) → a ≢ b → a / 64 ≡ b / 64 → a % 64 ≢ b % 64

@@ -18,12 +18,13 @@ use Rattle.std.proofs.lemmas.Map.Keys.{below_from_sorted}
 use Rattle.std.proofs.lemmas.Map.Lookups.{exact_unsigned}
 use Rattle.std.proofs.lemmas.Map.Views.{Contains-from_lookup, tells_apart}
 use Rattle.ats_bound.specs.declared.bracket.Bracket.{Bracket}
-use Rattle.ats_bound.specs.Scored.{AreScored, exact, exact_brackets, exactly, first_document, score_in}
+use Rattle.ats_bound.specs.Scored.{exact, exactly, first_document}
+use Rattle.ats_bound.specs.Inner.Scored.{AreScored, exact_brackets, score_in}
 use Rattle.ats_bound.specs.Cut.{ShownLane, lane_of, names}
 use Rattle.ats_bound.specs.Front.{IsStage, Stage, entry_on, lane_on, shown_on}
 use Rattle.ats_bound.specs.Schedule.{AreBracketsBy, AreWholeLanes, IsOpen, WholeLane, first_cut, has_bracket, shown, whole_lane, whole_lanes}
 use Rattle.ats_bound.specs.Settled.{bracket_at}
-use Rattle.ats_bound.specs.Best.{AreBest}
+use Rattle.ats_bound.specs.Inner.Best.{AreBest}
 use Rattle.ats_bound.proofs.Shown.{cut_after, first_is_cut, get_or-shown, have_entries, length-shown, no_shown, no_lane, open_more, shown-set}
 use Rattle.ats_bound.specs.Chosen.{AreBrackets}
 use Rattle.ats_bound.proofs.One.{Rise, same_doc}

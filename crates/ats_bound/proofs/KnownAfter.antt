@@ -7,8 +7,8 @@ use Rattle.std.proofs.lemmas.List.Folds.{list_any-append, list_any_at, list_any_
 use Rattle.std.proofs.Math.Seq.{get_or-append_seam, map-set_same}
 use Rattle.ats_bound.specs.declared.known.Met.{Met}
 use Rattle.ats_bound.specs.Cut.{ShownLane, lo_of, names}
-use Rattle.ats_bound.specs.Front.{named_by}
-use Rattle.ats_bound.specs.Known.{AreKnown, IsKnown, IsUnmet, Meets, met_at, more_of}
+use Rattle.ats_bound.specs.Inner.Front.{named_by}
+use Rattle.ats_bound.specs.Inner.Known.{AreKnown, IsKnown, IsUnmet, Meets, met_at, more_of}
 use Rattle.ats_bound.proofs.Entered.{Enters, none_named, or_none}
 use Rattle.ats_bound.proofs.One.{other_doc}
 

@@ -12,10 +12,10 @@ use Rattle.std.proofs.lemmas.List.Sorted.{All-permutation, IsNonDecreasingBy-fro
 use Rattle.ats_impact.specs.Rank.{times}
 use Rattle.ats_bound.specs.declared.bracket.Bracket.{Bracket}
 use Rattle.ats_bound.specs.declared.known.Met.{Met}
-use Rattle.ats_bound.specs.Best.{count_at_least}
+use Rattle.ats_bound.specs.Inner.Best.{count_at_least}
 use Rattle.ats_bound.specs.Cut.{ShownLane, bracket, lo_of}
-use Rattle.ats_bound.specs.Known.{AreKnown, AreOnce, IsKnown, lows, met_at}
-use Rattle.ats_bound.specs.Placed.{doc_cmp}
+use Rattle.ats_bound.specs.Inner.Known.{AreKnown, AreOnce, IsKnown, lows, met_at}
+use Rattle.ats_bound.specs.Inner.Placed.{doc_cmp}
 use Rattle.ats_bound.specs.Schedule.{AreBracketsOf, has_bracket}
 use Rattle.ats_bound.specs.Settled.{HaveDistinctDocs, bracket_at}
 use Rattle.ats_bound.proofs.One.{Rise, other_doc, risen_are_distinct, same_doc}

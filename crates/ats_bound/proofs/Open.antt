@@ -6,7 +6,7 @@ use Rattle.ats_impact.specs.Rank.{times}
 use Rattle.ats_bound.specs.declared.bracket.Bracket.{Bracket}
 use Rattle.ats_bound.specs.Chosen.{AreBrackets}
 use Rattle.ats_bound.specs.Settled.{ArePicks, IsSettled, bracket_at, last_row, row}
-use Rattle.ats_bound.specs.Best.{count_at_least}
+use Rattle.ats_bound.specs.Inner.Best.{count_at_least}
 use Rattle.std.proofs.lemmas.List.Elements.{All-head, All-tail}
 use Rattle.std.proofs.lemmas.List.Sums.{sum_by-cons, sum_by-le-sum_by}
 use Rattle.ats_bound.proofs.Kept.{count_set, reached, reached_no}

@@ -11,7 +11,7 @@ use Rattle.ats_bound.specs.declared.bracket.Bracket.{Bracket}
 use Rattle.ats_bound.specs.declared.choosing.Placed.{Placed}
 use Rattle.ats_bound.specs.Settled.{HaveDistinctDocs}
 use Rattle.ats_bound.specs.Chosen.{IsChosen, bracket_cmp, place_cmp}
-use Rattle.ats_bound.specs.Placed.{IsPlaced, placed_cmp}
+use Rattle.ats_bound.specs.Inner.Placed.{IsPlaced, placed_cmp}
 use Rattle.ats_bound.proofs.Places.{few_places}
 
 -- there are no more brackets than documents

@@ -12,11 +12,12 @@ use Rattle.std.proofs.lemmas.List.FromFn.{get_or-range_with_len, length-range_wi
 use Rattle.std.proofs.lemmas.List.Sums.{count_by-le-length, sum_by-cons, sum_by-take-drop}
 use Rattle.std.proofs.lemmas.List.Sorted.{All-permutation, IsPermutation-map, length_permutation}
 use Rattle.ats_bound.specs.declared.bracket.Bracket.{Bracket}
-use Rattle.ats_bound.specs.Best.{AreBest, count_at_least}
+use Rattle.ats_bound.specs.Inner.Best.{AreBest, count_at_least}
 use Rattle.ats_bound.specs.Front.{Stage, shown_on}
 use Rattle.ats_bound.specs.Cut.{threshold}
 use Rattle.ats_bound.specs.Schedule.{AreBracketsBy, Bounding}
-use Rattle.ats_bound.specs.Scored.{AreScored, exact, exact_brackets}
+use Rattle.ats_bound.specs.Scored.{exact}
+use Rattle.ats_bound.specs.Inner.Scored.{AreScored, exact_brackets}
 use Rattle.ats_bound.specs.QuickTest.{PassesQuickTest, TellsSettled}
 use Rattle.ats_bound.specs.Settled.{AreDistinct, ArePicks, IsSettled, bracket_at, last_row, row}
 use Rattle.ats_bound.specs.Chosen.{AreBrackets, IsChosen, place_cmp}

@@ -8,13 +8,13 @@ use Rattle.std.proofs.lemmas.List.{get_or-map, length-map}
 use Rattle.ats_impact.specs.Rank.{times}
 use Rattle.ats_bound.specs.declared.bracket.Bracket.{Bracket}
 use Rattle.ats_bound.specs.declared.known.Met.{Met}
-use Rattle.ats_bound.specs.Best.{AreBest, count_at_least}
+use Rattle.ats_bound.specs.Inner.Best.{AreBest, count_at_least}
 use Rattle.ats_bound.specs.Chosen.{AreBrackets, IsChosen}
 use Rattle.ats_bound.specs.Cut.{ShownLane, bracket, threshold}
 use Rattle.ats_bound.specs.Front.{Stage, shown_on}
-use Rattle.ats_bound.specs.Known.{lows, met_at}
+use Rattle.ats_bound.specs.Inner.Known.{lows, met_at}
 use Rattle.ats_bound.specs.QuickTest.{PassesQuickTest, TellsSettled}
-use Rattle.ats_bound.specs.Running.{DoOverlap, IsAround, IsOpenAt, IsRunning}
+use Rattle.ats_bound.specs.Inner.Running.{DoOverlap, IsAround, IsOpenAt, IsRunning}
 use Rattle.ats_bound.specs.Schedule.{AreBracketsOf, CanSettleBy}
 use Rattle.ats_bound.specs.Settled.{ArePicks, IsSettled, bracket_at, last_row}
 use Rattle.ats_bound.proofs.Chain.{chosen_are_picks, chosen_is_settled, even_settled}

@@ -7,7 +7,7 @@ use Rattle.std.proofs.lemmas.Bool.{cases_eq, cases_lt}
 use Rattle.std.proofs.lemmas.List.{get_or_append_left}
 use Rattle.std.proofs.Math.Seq.{get_or-append_seam}
 use Rattle.ats_bound.specs.declared.known.Met.{Met}
-use Rattle.ats_bound.specs.Known.{AreOnce, AreSlots, met_at}
+use Rattle.ats_bound.specs.Inner.Known.{AreOnce, AreSlots, met_at}
 
 abbrev nothing : Met
 nothing = record { doc = 0; lo = 0; named = 0 }

@@ -1,9 +1,7 @@
 pub mod Cut
-pub mod Best
 pub mod Scored
 pub mod Settled
 pub mod Chosen
-pub mod Placed
 pub mod Work
 pub mod Ranked
 pub mod Schedule
@@ -11,7 +9,6 @@ pub mod Lookup
 pub mod Narrow
 pub mod Stand
 pub mod Front
-pub mod Known
-pub mod Pages
 pub mod QuickTest
 pub mod Running
+pub mod Inner

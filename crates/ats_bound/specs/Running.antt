@@ -1,11 +1,6 @@
 -- Walks that run from cut to cut, and when no answer can be settled yet.
-use Rattle.std.specs.Prelude.{◌≡◌, ◌≢◌, ◌⊎◌, ◌<◌, ◌≤◌, ℕ, List, length}
-use Rattle.ats_bound.specs.declared.bracket.Bracket.{Bracket}
-use Rattle.ats_bound.specs.declared.known.Met.{Met}
-use Rattle.ats_bound.specs.Best.{AreBest}
-use Rattle.ats_bound.specs.Cut.{ShownLane, bracket}
-use Rattle.ats_bound.specs.Front.{IsStage, Stage, shown_on}
-use Rattle.ats_bound.specs.Known.{AreKnown, lows, met_at}
+use Rattle.std.specs.Prelude.{ℕ, List}
+use Rattle.ats_bound.specs.Cut.{ShownLane}
 use Rattle.ats_bound.specs.Schedule.{WholeLane, shown}
 
 -- the whole lists, how many rows an answer may have, and how many entries of each list are shown
@@ -17,27 +12,3 @@ pub record Standing : Type 0 where
 -- what is shown at this cut
 abbrev pub shown_in : Standing → List ShownLane
 shown_in standing = shown standing.lanes standing.cut
-
--- `met` is what is known of each met document, and `best` the largest of their lower bounds
-pub record IsRunning (stage : Stage) (rows : ℕ) (met : List Met) (best : List ℕ) : Type 0 where
-  pub stands : IsStage stage
-  pub some : 1 ≤ rows
-  pub known : AreKnown (shown_on stage) met
-  pub size : length best ≡ rows
-  pub greatest : AreBest best (lows met)
-
--- the score is inside the bracket, so its document is not among the best by lower bounds and may still become one
-abbrev pub IsAround : ℕ → Bracket → Type 0
-IsAround score b = (b.lo < score) × (score < b.hi)
-
--- brackets of two documents that overlap, and one of them goes above this score: which of the two is better is still
--- open
-abbrev pub DoOverlap : ℕ → Bracket → Bracket → Type 0
-DoOverlap score a b = (a.doc ≢ b.doc) × (b.lo < a.hi) × (a.lo < b.hi) × ((score < a.hi) ⊎ (score < b.hi))
-
--- the bracket of some met document is around the score, or those of some two overlap
-abbrev pub IsOpenAt : ℕ → List ShownLane → List Met → Type 0
-IsOpenAt score lanes met =
-    ((i : ℕ) × (i < length met) × IsAround score (bracket lanes (met_at met i).doc))
-    ⊎ ((i : ℕ) × (j : ℕ) × (i < length met) × (j < length met)
-    × DoOverlap score (bracket lanes (met_at met i).doc) (bracket lanes (met_at met j).doc))

@@ -1,10 +1,10 @@
 -- The state of a walk at a cut, and at its end.
-use Rattle.std.specs.Prelude.{◌≡◌, ◌<◌, ℕ, List}
+use Rattle.std.specs.Prelude.{◌≡◌, ℕ, List}
 use Rattle.ats_bound.specs.declared.walk.Walk.{Walk}
 use Rattle.ats_bound.specs.Cut.{threshold}
 use Rattle.ats_bound.specs.Settled.{ArePicks, IsSettled}
 use Rattle.ats_bound.specs.Chosen.{IsChosen}
-use Rattle.ats_bound.specs.Schedule.{WholeLane, Bounding, AreBracketsBy, CanSettleBy, IsFirstSettledBy, IsScheduled, shown}
+use Rattle.ats_bound.specs.Schedule.{WholeLane, Bounding, AreBracketsBy, shown}
 
 -- the brackets, the threshold and the chosen answer at a cut
 pub record IsStand (bounds : Bounding) (lanes : List WholeLane) (r : ℕ) (counts : List ℕ) (walk : Walk) : Type 0 where
@@ -16,16 +16,3 @@ pub record IsStand (bounds : Bounding) (lanes : List WholeLane) (r : ℕ) (count
   -- it is settled if any answer is
   pub best : (answer : List ℕ) → ArePicks walk.brackets answer → IsSettled walk.brackets answer walk.threshold r
       → IsSettled walk.brackets walk.picks walk.threshold r
-
--- the walk is at the first cut of the schedule at which an answer is settled, with the chosen answer
-pub record IsEnd (bounds : Bounding) (lanes : List WholeLane) (r : ℕ) (walk : Walk) : Type 0 where
-  pub first : IsFirstSettledBy bounds lanes r walk.cut
-  pub stand : IsStand bounds lanes r walk.cut walk
-  pub settled : IsSettled walk.brackets walk.picks walk.threshold r
-
--- a cut of the schedule, with no answer settled at an earlier one
-pub record IsReached (bounds : Bounding) (lanes : List WholeLane) (r : ℕ) (counts : List ℕ) : Type 0 where
-  pub turns : ℕ
-  pub scheduled : IsScheduled lanes turns counts
-  pub none : (n : ℕ) (earlier : List ℕ) → n < turns
-      → IsScheduled lanes n earlier → CanSettleBy bounds lanes r earlier → ⊥

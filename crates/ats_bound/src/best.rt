@@ -2,7 +2,7 @@
 
 ghost use Rattle.std.specs.Prelude.{◌≡◌, ◌<◌, ◌≤◌, ◌↔◌, ◌∷◌, [], ℕ, List, length, slice_index, slice_set, IfOk};
 ghost use Rattle.std.specs.List.Sorted.{IsPermutation};
-ghost use Rattle.ats_bound.specs.Best.{AreBest, Ascends, AscendsBut, count_at_least};
+ghost use Rattle.ats_bound.specs.Inner.Best.{AreBest, Ascends, AscendsBut, count_at_least};
 
 use crate::memory::OutOfMemory;
 use ats_impact::Top;
@@ -19,7 +19,7 @@ pub(crate) struct Best {
 
 impl Model for Best {
     ghost use Rattle.std.specs.Prelude.{List, ℕ};
-    ghost use Rattle.ats_bound.specs.Best.{AreKept};
+    ghost use Rattle.ats_bound.specs.Inner.Best.{AreKept};
 
     ghost Value = { List ℕ };
 

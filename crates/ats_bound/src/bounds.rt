@@ -3,8 +3,8 @@
 ghost use Rattle.std.specs.Prelude.{◌≡◌, ◌↔◌, IsTrue, IfOk};
 ghost use Rattle.ats_bound.specs.Cut.{bracket};
 ghost use Rattle.ats_bound.specs.Front.{shown_on};
-ghost use Rattle.ats_bound.specs.Known.{AreKnown, IsKnown};
-ghost use Rattle.ats_bound.specs.Running.{DoOverlap, IsAround};
+ghost use Rattle.ats_bound.specs.Inner.Known.{AreKnown, IsKnown};
+ghost use Rattle.ats_bound.specs.Inner.Running.{DoOverlap, IsAround};
 ghost use Rattle.ats_bound.specs.Schedule.{AreBracketsOf};
 
 use crate::bracket::{Bracket, Brackets};

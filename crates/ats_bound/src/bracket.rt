@@ -2,7 +2,7 @@
 
 ghost use Rattle.std.specs.Prelude.{◌≡◌, ◌<◌, ◌++◌, ◌∷◌, [], length, slice_index_or, is_ok, if◌then◌else◌, IfOk};
 ghost use Rattle.std.specs.List.Sorted.{IsPermutation, IsSorted};
-ghost use Rattle.ats_bound.specs.Placed.{doc_cmp};
+ghost use Rattle.ats_bound.specs.Inner.Placed.{doc_cmp};
 
 use crate::memory::OutOfMemory;
 use std::alloc::Global;

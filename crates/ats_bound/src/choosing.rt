@@ -5,7 +5,7 @@ ghost use Rattle.std.specs.List.{range_with_len, All};
 ghost use Rattle.std.specs.List.Sorted.{IsPermutation, IsSorted};
 ghost use Rattle.ats_bound.specs.Settled.{ArePicks, HaveDistinctDocs, IsSettled};
 ghost use Rattle.ats_bound.specs.Chosen.{AreBrackets, IsChosen};
-ghost use Rattle.ats_bound.specs.Placed.{placed_cmp, IsPlaced};
+ghost use Rattle.ats_bound.specs.Inner.Placed.{placed_cmp, IsPlaced};
 
 use crate::bracket::Bracket;
 use crate::memory::OutOfMemory;

@@ -2,7 +2,8 @@
 
 ghost use Rattle.std.specs.Prelude.{◌≡◌, ◌↔◌, ◌<◌, ◌≤◌, ◌+◌, ◌*◌, ◌^◌, ℕ, length, map, set, sum, slice_index, IfOk, IsNone, MatchOption};
 ghost use Rattle.ats_bound.specs.Cut.{missing, rest, threshold};
-ghost use Rattle.ats_bound.specs.Front.{IsStage, entry_on, lane_on, named_by, shown_on};
+ghost use Rattle.ats_bound.specs.Front.{IsStage, entry_on, lane_on, shown_on};
+ghost use Rattle.ats_bound.specs.Inner.Front.{named_by};
 ghost use Rattle.ats_bound.specs.Schedule.{AreAllShown, AreWholeLanes, IsCut, IsNextLane, IsOpen, first_cut, shown, whole_lanes};
 
 use crate::cut::Cut;
@@ -23,7 +24,8 @@ pub(crate) struct Front<'a> {
 }
 
 impl<'a> Model for Front<'a> {
-    ghost use Rattle.ats_bound.specs.Front.{AreRests, Stage};
+    ghost use Rattle.ats_bound.specs.Front.{Stage};
+    ghost use Rattle.ats_bound.specs.Inner.Front.{AreRests};
     ghost use Rattle.ats_bound.specs.Schedule.{whole_lanes};
 
     ghost Value = { Stage };

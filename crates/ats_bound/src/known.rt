@@ -1,7 +1,7 @@
 //! What is known of the met documents.
 
 ghost use Rattle.std.specs.Prelude.{◌≡◌, ◌≢◌, ◌<◌, ◌++◌, ◌∷◌, [], ℕ, length, set, is_ok, if◌then◌else◌, MatchOption};
-ghost use Rattle.ats_bound.specs.Known.{AreOnce, met_at};
+ghost use Rattle.ats_bound.specs.Inner.Known.{AreOnce, met_at};
 
 use crate::memory::OutOfMemory;
 use crate::pages::Pages;
@@ -27,8 +27,8 @@ pub(crate) struct Known {
 impl Model for Known {
     ghost use Rattle.std.specs.Prelude.{List, ℕ};
     ghost use Rattle.ats_bound.specs.declared.known.Met.{Met as Item};
-    ghost use Rattle.ats_bound.specs.Known.{AreSlots};
-    ghost use Rattle.ats_bound.specs.Pages.{slot_in};
+    ghost use Rattle.ats_bound.specs.Inner.Known.{AreSlots};
+    ghost use Rattle.ats_bound.specs.Inner.Pages.{slot_in};
 
     ghost Value = { List Item };
 

@@ -1,7 +1,7 @@
 //! The slot of each document.
 
 ghost use Rattle.std.specs.Prelude.{◌≡◌, ◌≢◌, ◌<◌, ◌+◌, ◌^◌, ℕ, Some, None, OnOk, OnErr, slice_index};
-ghost use Rattle.ats_bound.specs.Pages.{slot_in};
+ghost use Rattle.ats_bound.specs.Inner.Pages.{slot_in};
 
 use crate::memory::OutOfMemory;
 use std::alloc::Global;

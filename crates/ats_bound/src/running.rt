@@ -2,9 +2,9 @@
 
 ghost use Rattle.std.specs.Prelude.{◌≡◌, ◌↔◌, ◌<◌, ◌≤◌, ◌+◌, ◌*◌, ◌^◌, ℕ, [], List, length, set, slice_index, slice_index_or, MatchOption, IsNone, IfOk, OnOk, OnErr};
 ghost use Rattle.ats_bound.specs.declared.bracket.Bracket.{Bracket as Bounded};
-ghost use Rattle.ats_bound.specs.Best.{AreBest};
+ghost use Rattle.ats_bound.specs.Inner.Best.{AreBest};
 ghost use Rattle.ats_bound.specs.Cut.{bracket, threshold};
-ghost use Rattle.ats_bound.specs.Known.{AreKnown, Meets, lows, met_at};
+ghost use Rattle.ats_bound.specs.Inner.Known.{AreKnown, Meets, lows, met_at};
 ghost use Rattle.ats_bound.specs.Schedule.{AreAllShown, AreBracketsOf, AreWholeLanes, IsNextLane, IsOpen, IsWholeLane, first_cut, shown, whole_lane, whole_lanes};
 ghost use Rattle.ats_bound.specs.Running.{shown_in};
 ghost use Rattle.ats_bound.specs.QuickTest.{PassesQuickTest, TellsSettled};
@@ -40,7 +40,8 @@ pub struct Running<'a> {
 }
 
 impl<'a> Model for Running<'a> {
-    ghost use Rattle.ats_bound.specs.Running.{IsRunning, Standing};
+    ghost use Rattle.ats_bound.specs.Running.{Standing};
+    ghost use Rattle.ats_bound.specs.Inner.Running.{IsRunning};
 
     ghost Value = { Standing };
 

@@ -5,13 +5,14 @@ ghost use Rattle.std.specs.List.{All, Contains, list_any};
 ghost use Rattle.std.specs.List.Sorted.{IsStrictlySortedBy};
 ghost use Rattle.std.specs.Map.{keys_of, values_of};
 ghost use Rattle.std.specs.Ordering.{nat_cmp};
-ghost use Rattle.ats_bound.specs.Best.{AreBest};
+ghost use Rattle.ats_bound.specs.Inner.Best.{AreBest};
 ghost use Rattle.ats_bound.specs.Chosen.{IsChosen};
 ghost use Rattle.ats_bound.specs.Cut.{names, threshold};
 ghost use Rattle.ats_bound.specs.Front.{IsStage, entry_on, shown_on};
 ghost use Rattle.ats_bound.specs.Schedule.{AreAllShown, AreBracketsBy, AreWholeLanes, Bounding, IsNextLane, IsOpen, first_cut, has_bracket, shown, whole_lanes};
 ghost use Rattle.ats_bound.specs.Settled.{ArePicks, IsSettled};
-ghost use Rattle.ats_bound.specs.Scored.{AreFirstScores, AreScored, exact, exact_brackets, exactly, score_in};
+ghost use Rattle.ats_bound.specs.Scored.{AreFirstScores, exact, exactly};
+ghost use Rattle.ats_bound.specs.Inner.Scored.{AreScored, exact_brackets, score_in};
 ghost use Rattle.ats_bound.specs.QuickTest.{PassesQuickTest, TellsSettled};
 
 use crate::best::Best;
@@ -40,7 +41,8 @@ pub struct Scored<'a> {
 }
 
 impl<'a> Model for Scored<'a> {
-    ghost use Rattle.ats_bound.specs.Scored.{AreScored, ScoredStanding, exact_brackets};
+    ghost use Rattle.ats_bound.specs.Scored.{ScoredStanding};
+    ghost use Rattle.ats_bound.specs.Inner.Scored.{AreScored, exact_brackets};
 
     ghost Value = { ScoredStanding };
 

@@ -2,8 +2,8 @@
 
 ghost use Rattle.std.specs.Prelude.{IsTrue};
 ghost use Rattle.ats_bound.specs.Front.{shown_on};
-ghost use Rattle.ats_bound.specs.Known.{AreKnown};
-ghost use Rattle.ats_bound.specs.Running.{IsOpenAt};
+ghost use Rattle.ats_bound.specs.Inner.Known.{AreKnown};
+ghost use Rattle.ats_bound.specs.Inner.Running.{IsOpenAt};
 
 use crate::bounds::{bracket_of, is_around, overlap};
 use crate::front::Front;

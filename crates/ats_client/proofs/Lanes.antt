@@ -19,7 +19,7 @@ use Rattle.ats_proof.specs.Runs.{named}
 use Rattle.ats_client.specs.Indexes.{AreNames}
 use Rattle.ats_client.specs.Presented.{Presented, lane_of}
 use Rattle.ats_client.specs.Groups.{indexes_of, met_at}
-use Rattle.ats_client.specs.Noting.{Note, note, index_lane, lane_notes, notes_of, gain_of, held_of, has_note}
+use Rattle.ats_client.specs.Inner.Noting.{Note, note, index_lane, lane_notes, notes_of, gain_of, held_of, has_note}
 use Rattle.ats_client.proofs.Named.{any_some}
 use Rattle.ats_client.proofs.ListNotes.{names_inside}
 

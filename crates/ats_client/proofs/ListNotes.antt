@@ -8,7 +8,7 @@ use Rattle.ats_bound.specs.Cut.{rest}
 use Rattle.ats_client.specs.Presented.{Presented}
 use Rattle.ats_client.specs.Indexes.{AreNames}
 use Rattle.ats_client.specs.Groups.{indexes_of}
-use Rattle.ats_client.specs.Noting.{Note, note, AreNotes, index_lane, lane_notes}
+use Rattle.ats_client.specs.Inner.Noting.{Note, note, AreNotes, index_lane, lane_notes}
 use Rattle.ats_client.proofs.Marks.{notes_turn}
 use Rattle.ats_client.proofs.TermsLeft.{each_by}
 

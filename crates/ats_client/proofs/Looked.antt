@@ -10,7 +10,7 @@ use Rattle.ats_refusal.specs.declared.proof.Refusal.{Refusal}
 use Rattle.ats_refusal.specs.declared.proof.Refusal.TheVariants.{TermSlot}
 use Rattle.ats_client.specs.Documents.{MetDocument, term_shown, IsTermSlotRight, IsTermSlotsFault}
 use Rattle.ats_client.specs.Groups.{slot_at}
-use Rattle.ats_client.specs.KeptTerms.{numbers_of, bare_lanes}
+use Rattle.ats_client.specs.Inner.KeptTerms.{numbers_of, bare_lanes}
 use Rattle.ats_client.specs.Slots.{ShowsTerm}
 use Rattle.ats_client.proofs.TermsLeft.{at_front}
 

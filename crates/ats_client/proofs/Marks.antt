@@ -12,7 +12,7 @@ use Rattle.ats_bound.specs.declared.work.Mark.{Mark}
 use Rattle.ats_bound.specs.Work.{mark_at, zero_mark}
 use Rattle.ats_postings.specs.declared.entry.Entry.{Entry}
 use Rattle.ats_client.specs.Groups.{indexes_of}
-use Rattle.ats_client.specs.Noting.{Note, IsNoted, AreNotes, note, with_note, has_note}
+use Rattle.ats_client.specs.Inner.Noting.{Note, IsNoted, AreNotes, note, with_note, has_note}
 use Rattle.ats_client.proofs.Named.{any_none, any_some}
 
 -- ---- one more at the end

@@ -26,7 +26,7 @@ use Rattle.ats_client.specs.Accepts.{section_rules}
 use Rattle.ats_client.specs.Documents.{MetDocument, documents_in, met_documents, present_numbers}
 use Rattle.ats_client.specs.Groups.{IsListRight, met_at, slot_at}
 use Rattle.ats_client.specs.Presented.{Presented, presented}
-use Rattle.ats_client.specs.KeptTerms.{kept_term}
+use Rattle.ats_client.specs.Inner.KeptTerms.{kept_term}
 use Rattle.ats_client.specs.Strings.{IsOwnList, IsOwn}
 use Rattle.ats_client.specs.WholeLists.{is_whole, shows_whole}
 use Rattle.ats_client.specs.declared.kept_terms.PresentTerm.{PresentTerm}

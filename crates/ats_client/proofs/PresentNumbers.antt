@@ -10,7 +10,7 @@ use Rattle.ats_proof.specs.Value.{ShownEntry, Prefix, Proof, present_in}
 use Rattle.ats_client.specs.declared.kept_terms.PresentTerm.{PresentTerm}
 use Rattle.ats_client.specs.Documents.{present_from, present_numbers}
 use Rattle.ats_client.specs.Presented.{Presented, presented_from, presented}
-use Rattle.ats_client.specs.KeptTerms.{kept_term, kept_terms, numbers_of}
+use Rattle.ats_client.specs.Inner.KeptTerms.{kept_term, kept_terms, numbers_of}
 use Rattle.ats_client.proofs.HeadlineTerms.{kind_absent, kind_present}
 use Rattle.ats_client.proofs.TermsLeft.{each_by}
 

@@ -13,7 +13,7 @@ use Rattle.ats_proof.proofs.Public.{increasing-tail}
 use Rattle.ats_client.specs.Bracketing.{impact_shown, impacts_shown, bounds_in}
 use Rattle.ats_client.specs.Marked.{IsMark}
 use Rattle.ats_client.specs.Presented.{Presented, lane_of}
-use Rattle.ats_client.specs.KeptTerms.{kept_term, bare_lanes}
+use Rattle.ats_client.specs.Inner.KeptTerms.{kept_term, bare_lanes}
 
 -- the impacts of a met document are those that its own section shows
 pub impacts_at : (met : List ℕ) (sections : List TermsSection) (j id : ℕ) (section : TermsSection) (i : ℕ) → IsStrictlyIncreasing met

@@ -42,7 +42,7 @@ use Rattle.ats_proof.specs.Ranges.{IsShownInRange, IsTermInRange, IsDocLeafInRan
 use Rattle.ats_proof.specs.Runs.{shown_entry, shown_term, shown_docs, shown_list, named}
 use Rattle.ats_client.specs.Documents.{documents_from, AreDocsRooted}
 use Rattle.ats_client.specs.Presented.{presented}
-use Rattle.ats_client.specs.Sections.{difference_in}
+use Rattle.ats_client.specs.Inner.Sections.{difference_in}
 use Rattle.ats_client.specs.Strings.{hashed_header, strings_in, list_strings, terms_strings, documents_strings, extract}
 
 -- ---- strings of an archive's own have a tag

@@ -8,14 +8,9 @@ pub mod Bracketing
 pub mod Accepts
 pub mod Marked
 pub mod Rows
-pub mod Seen
-pub mod SeenTerms
-pub mod KeptTerms
-pub mod Noting
-pub mod SeenLists
-pub mod Bounds
 pub mod Rooted
 pub mod Strings
 pub mod Headline
 pub mod Bytes
 pub mod Sections
+pub mod Inner

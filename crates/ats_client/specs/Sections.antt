@@ -3,8 +3,6 @@ use Rattle.std.specs.Prelude.{◌≡◌, ℕ, List, length}
 use Rattle.std.specs.List.{All}
 use Rattle.ats_tree.specs.Differences.{Difference}
 use Rattle.ats_tree.specs.declared.hashed.Place.{Place}
-use Rattle.ats_tree.specs.declared.clashing.Clash as found
-use Rattle.ats_tree.specs.declared.hashed.Tree.{Tree}
 use Rattle.ats_proof.specs.Value.{Proof}
 use Rattle.ats_client.specs.Documents.{IsDocsTree, IsTermsTree, met_documents}
 use Rattle.ats_client.specs.Groups.{IsDictionary, AreSlotsRight, AreListsRight}
@@ -24,11 +22,3 @@ pub record AreRebuilt (H : List ℕ → List ℕ) (query : List (List ℕ × ℕ
 -- the two strings at one place that a clash has
 abbrev pub difference_of : Clash → Difference Place
 difference_of clash = record { place = clash.place; ours = clash.ours; theirs = clash.theirs }
-
--- the two strings of a clash that was found in a tree or in a list
-abbrev pub difference_in : Tree → found.Clash (List ℕ) → Difference Place
-difference_in tree clash = record {
-  place = record { tree = tree; depth = clash.depth; turns = clash.turns };
-  ours = clash.ours;
-  theirs = clash.theirs;
-}

@@ -4,9 +4,10 @@ ghost use Rattle.std.specs.Prelude.{◌≡◌, ◌<◌, ◌≤◌, ◌+◌, ◌*
 ghost use Rattle.ats_bound.specs.Cut.{bracket, threshold as threshold_of};
 ghost use Rattle.ats_proof.specs.Value.{items_of_prefix};
 ghost use Rattle.ats_client.specs.Presented.{lanes_of};
-ghost use Rattle.ats_client.specs.KeptTerms.{kept_terms};
+ghost use Rattle.ats_client.specs.Inner.KeptTerms.{kept_terms};
 ghost use Rattle.ats_client.specs.Groups.{AreSlotsRight, AreListsRight, IsListsFault};
-ghost use Rattle.ats_client.specs.Marked.{AreMarks, AreNoted};
+ghost use Rattle.ats_client.specs.Marked.{AreMarks};
+ghost use Rattle.ats_client.specs.Inner.Marked.{AreNoted};
 
 use crate::kept_terms::PresentTerms;
 use crate::next_term::present;

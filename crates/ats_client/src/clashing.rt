@@ -14,10 +14,11 @@ ghost use Rattle.ats_proof.specs.Runs.{shown_entry};
 ghost use Rattle.ats_proof.specs.SeenDocs.{documents_of, ids_of};
 ghost use Rattle.ats_client.specs.Documents.{IsDocsTree, IsTermsTree, documents_from, met_documents};
 ghost use Rattle.ats_client.specs.Groups.{IsDictionary, AreSlotsRight, IsListRight, AreListsRight};
-ghost use Rattle.ats_client.specs.SeenLists.{prefix_of, presented_of};
+ghost use Rattle.ats_client.specs.Inner.SeenLists.{prefix_of, presented_of};
 ghost use Rattle.ats_client.specs.Presented.{presented};
-ghost use Rattle.ats_client.specs.Sections.{AreRebuilt, difference_of, difference_in};
-ghost use Rattle.ats_client.specs.SeenTerms.{document_of};
+ghost use Rattle.ats_client.specs.Sections.{AreRebuilt, difference_of};
+ghost use Rattle.ats_client.specs.Inner.Sections.{difference_in};
+ghost use Rattle.ats_client.specs.Inner.SeenTerms.{document_of};
 ghost use Rattle.ats_client.specs.Strings.{hashed_header, strings_in, list_strings, terms_strings, documents_strings, extract};
 
 use crate::memory::OutOfMemory;
@@ -200,7 +201,7 @@ fn dictionary<'a, H: Hash32, O: OwnStrings<H>>(
 }
 
 // The strings of the prefix of a present term.
-#[tactic(auto, unfolding(crate::specs::SeenLists::prefix_of))]
+#[tactic(auto, unfolding(crate::specs::Inner::SeenLists::prefix_of))]
 fn list<'a, H: Hash32, O: OwnStrings<H>>(
     own: &O,
     query: &Query,

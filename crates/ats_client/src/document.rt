@@ -13,9 +13,9 @@ ghost use Rattle.ats_refusal.specs.declared.proof.Refusal.TheVariants.{TermSlot}
 ghost use Rattle.ats_client.specs.Bracketing.{impact_shown};
 ghost use Rattle.ats_client.specs.Documents.{term_shown, IsTermsTree, IsTermsFault, IsDocumentRight, document_rules};
 ghost use Rattle.ats_client.specs.Groups.{slot_at};
-ghost use Rattle.ats_client.specs.KeptTerms.{numbers_of, bare_lanes};
+ghost use Rattle.ats_client.specs.Inner.KeptTerms.{numbers_of, bare_lanes};
 ghost use Rattle.ats_base.specs.Rules.{IsFirstFault};
-ghost use Rattle.ats_client.specs.SeenTerms.{terms_left, document_of};
+ghost use Rattle.ats_client.specs.Inner.SeenTerms.{terms_left, document_of};
 ghost use Rattle.ats_client.specs.Slots.{ShowsTerm};
 
 use crate::kept_terms::{PresentTerm, PresentTerms};

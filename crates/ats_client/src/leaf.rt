@@ -16,7 +16,7 @@ pub(crate) struct Leaf<'a> {
 impl<'a> Section for DictView<'a> {
     ghost use Rattle.std.proofs.Props.{props};
     ghost use Rattle.ats_proof.specs.Value.{ShownEntry};
-    ghost use Rattle.ats_client.specs.Seen.{entries_left, shown_of};
+    ghost use Rattle.ats_client.specs.Inner.Seen.{entries_left, shown_of};
     ghost use Rattle.ats_client.specs.Slots.{entry_shown};
 
     type Leaf = Leaf<'a>;
@@ -31,7 +31,7 @@ impl<'a> Section for DictView<'a> {
 
     ghost shown = { entry_shown };
 
-    #[tactic(auto, unfolding(crate::specs::Seen::entries_left))]
+    #[tactic(auto, unfolding(crate::specs::Inner::Seen::entries_left))]
     fn first(&self) -> Option<Leaf<'a>> {
         let entry = self.leaf()?;
         let position = Revealed::position(self)?;
@@ -46,7 +46,7 @@ impl<'a> Section for DictView<'a> {
         leaf.entry.term
     }
 
-    #[tactic(auto, unfolding(crate::specs::Seen::entries_left))]
+    #[tactic(auto, unfolding(crate::specs::Inner::Seen::entries_left))]
     fn pass(&mut self, steps: &mut Steps) -> bool {
         if self.leaf().is_none() {
             return false;

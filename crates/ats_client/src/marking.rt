@@ -5,8 +5,8 @@ ghost use Rattle.ats_bound.specs.Work.{mark_at};
 ghost use Rattle.ats_bound.specs.Cut.{rest_impact};
 ghost use Rattle.ats_client.specs.Indexes.{AreNames};
 ghost use Rattle.ats_client.specs.Groups.{IsEntryFault, indexes_of};
-ghost use Rattle.ats_client.specs.Noting.{Note, note, with_note, AreNotes};
-ghost use Rattle.ats_client.specs.SeenLists.{prefix_of, presented_of};
+ghost use Rattle.ats_client.specs.Inner.Noting.{Note, note, with_note, AreNotes};
+ghost use Rattle.ats_client.specs.Inner.SeenLists.{prefix_of, presented_of};
 
 use crate::present_term::Present;
 use ats_bound::{Mark, Work};
@@ -15,7 +15,7 @@ use ats_proof::ListView;
 use ats_refusal::Refusal;
 
 /// The impact that no entry outside the prefix exceeds, if the list has `total` entries.
-#[tactic(auto, unfolding(crate::specs::SeenLists::prefix_of))]
+#[tactic(auto, unfolding(crate::specs::Inner::SeenLists::prefix_of))]
 pub(crate) fn rest_impact(list: &ListView<'_>, total: u32, steps: &mut Steps) -> u16
     requires room { steps.old ≤ 2 ^ 63 }
     ensures value { result
@@ -69,7 +69,7 @@ pub(crate) fn weighed(coefficient: u32, impact: u16) -> u64
 }
 
 /// Notes the entries of a prefix, until one fails.
-#[tactic(auto, unfolding(crate::specs::SeenLists::prefix_of))]
+#[tactic(auto, unfolding(crate::specs::Inner::SeenLists::prefix_of))]
 pub(crate) fn entries(
     one: &Present<'_>,
     met: u32,

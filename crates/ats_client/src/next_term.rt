@@ -4,8 +4,8 @@ ghost use Rattle.std.specs.Prelude.{◌≡◌, ◌<◌, ◌≤◌, ◌+◌, ◌^
 ghost use Rattle.ats_proof.specs.Value.{present_in};
 ghost use Rattle.ats_client.specs.Presented.{presented_from};
 ghost use Rattle.ats_client.specs.Groups.{IsSlotRight, slot_at};
-ghost use Rattle.ats_client.specs.SeenLists.{prefix_of, prefixes_left, presented_of};
-ghost use Rattle.ats_client.specs.Seen.{entries_left};
+ghost use Rattle.ats_client.specs.Inner.SeenLists.{prefix_of, prefixes_left, presented_of};
+ghost use Rattle.ats_client.specs.Inner.Seen.{entries_left};
 
 use crate::present_term::Present;
 use crate::walk::Walk;
@@ -14,7 +14,7 @@ use ats_proof::{DictView, ListView, ListsView, ProofView};
 use ats_terms::Query;
 
 // The first prefix left.
-#[tactic(auto, unfolding(crate::specs::SeenLists::prefixes_left, crate::specs::SeenLists::prefix_of))]
+#[tactic(auto, unfolding(crate::specs::Inner::SeenLists::prefixes_left, crate::specs::Inner::SeenLists::prefix_of))]
 fn next_list<'a>(left: &mut ListsView<'a>, steps: &mut Steps) -> Option<ListView<'a>>
     requires room { steps.old ≤ 2 ^ 63 }
     ensures first { option_map prefix_of result ≡ slice_get (prefixes_left left.old) 0 }

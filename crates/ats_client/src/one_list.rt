@@ -8,9 +8,9 @@ ghost use Rattle.ats_lists.specs.Formats.{prefix_root};
 ghost use Rattle.ats_proof.specs.Ranges.{IsPrefixInRange};
 ghost use Rattle.ats_proof.specs.Value.{items_of_prefix};
 ghost use Rattle.ats_client.specs.Groups.{IsListRight, IsListFault, IsListRootFault, list_digest};
-ghost use Rattle.ats_client.specs.Noting.{Note, AreNotes, index_lane, lane_notes};
-ghost use Rattle.ats_client.specs.SeenLists.{prefix_of, presented_of};
-ghost use Rattle.ats_client.specs.KeptTerms.{kept_term};
+ghost use Rattle.ats_client.specs.Inner.Noting.{Note, AreNotes, index_lane, lane_notes};
+ghost use Rattle.ats_client.specs.Inner.SeenLists.{prefix_of, presented_of};
+ghost use Rattle.ats_client.specs.Inner.KeptTerms.{kept_term};
 
 use crate::marking::{entries, rest_impact, weighed};
 use crate::opening::rebuilt;
@@ -47,7 +47,7 @@ fn rebuilt_list<'a, H: Hash32, R: Revealed<'a>>(
 }
 
 // Checks that the prefix is the front of the list that its term's leaf names.
-#[tactic(auto, using(crate::proofs::Counts::shown_list_size), unfolding(crate::specs::SeenLists::prefix_of))]
+#[tactic(auto, using(crate::proofs::Counts::shown_list_size), unfolding(crate::specs::Inner::SeenLists::prefix_of))]
 fn rooted<'a, H: Hash32>(
     one: &Present<'a>,
     proof: &ProofView<'a>,

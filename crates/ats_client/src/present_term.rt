@@ -1,8 +1,8 @@
 //! The present terms, one by one.
 
 ghost use Rattle.std.specs.Prelude.{◌≡◌, ◌≤◌, ◌^◌};
-ghost use Rattle.ats_client.specs.SeenLists.{presented_of};
-ghost use Rattle.ats_client.specs.KeptTerms.{kept_term};
+ghost use Rattle.ats_client.specs.Inner.SeenLists.{presented_of};
+ghost use Rattle.ats_client.specs.Inner.KeptTerms.{kept_term};
 
 use crate::kept_terms::PresentTerm;
 use ats_dict::DictLeaf;

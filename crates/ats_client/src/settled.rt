@@ -4,9 +4,10 @@ ghost use Rattle.std.specs.Prelude.{◌≡◌, ◌⊎◌, ◌↔◌, ◌+◌, �
 ghost use Rattle.std.specs.List.{All};
 ghost use Rattle.ats_bound.specs.Cut.{ShownLane, threshold as threshold_of};
 ghost use Rattle.ats_bound.specs.Schedule.{Bounding};
-ghost use Rattle.ats_client.specs.Bounds.{upper, AreBelow, lower_before, AreFalling, AreOthersWithin};
+ghost use Rattle.ats_client.specs.Inner.Bounds.{upper, AreBelow, lower_before, AreFalling, AreOthersWithin};
 ghost use Rattle.ats_client.specs.Groups.{AreRowsRight, IsAnswerSettled};
-ghost use Rattle.ats_client.specs.Marked.{AreMarks, AreNoted};
+ghost use Rattle.ats_client.specs.Marked.{AreMarks};
+ghost use Rattle.ats_client.specs.Inner.Marked.{AreNoted};
 
 use ats_bound::{Mark, Work};
 use ats_hash::Steps;

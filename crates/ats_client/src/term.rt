@@ -16,7 +16,7 @@ impl<'a> Section for TermsView<'a> {
     ghost use Rattle.std.proofs.Props.{props};
     ghost use Rattle.ats_proof.specs.Value.{ShownTerm};
     ghost use Rattle.ats_client.specs.Documents.{term_shown};
-    ghost use Rattle.ats_client.specs.SeenTerms.{terms_left, term_of};
+    ghost use Rattle.ats_client.specs.Inner.SeenTerms.{terms_left, term_of};
 
     type Leaf = Term<'a>;
 
@@ -30,7 +30,7 @@ impl<'a> Section for TermsView<'a> {
 
     ghost shown = { term_shown };
 
-    #[tactic(auto, unfolding(crate::specs::SeenTerms::terms_left))]
+    #[tactic(auto, unfolding(crate::specs::Inner::SeenTerms::terms_left))]
     fn first(&self) -> Option<Term<'a>> {
         let leaf = self.leaf()?;
         let position = Revealed::position(self)?;
@@ -45,7 +45,7 @@ impl<'a> Section for TermsView<'a> {
         leaf.leaf.term
     }
 
-    #[tactic(auto, unfolding(crate::specs::SeenTerms::terms_left))]
+    #[tactic(auto, unfolding(crate::specs::Inner::SeenTerms::terms_left))]
     fn pass(&mut self, steps: &mut Steps) -> bool {
         if self.leaf().is_none() {
             return false;

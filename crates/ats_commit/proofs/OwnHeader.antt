@@ -10,7 +10,8 @@ use Rattle.ats_lists.specs.declared.format.Format.{Format}
 use Rattle.ats_lists.specs.declared.format.Format.TheVariants.{One, Two}
 use Rattle.ats_commit.specs.Archive.{Archive, header_tag}
 use Rattle.ats_commit.specs.Trees.{dictionary_of, documents_of}
-use Rattle.ats_commit.specs.Root.{header_of, header_string, own_header_string, HasOwnHeader}
+use Rattle.ats_commit.specs.Root.{header_of, header_string}
+use Rattle.ats_commit.specs.Inner.Root.{own_header_string, HasOwnHeader}
 use Rattle.ats_commit.specs.Own.{AreTexts, IsHeaderOf}
 use Rattle.ats_commit.proofs.HeaderLemmas.{header_in_range}
 use Rattle.ats_commit.proofs.TermLemmas.{few_within}

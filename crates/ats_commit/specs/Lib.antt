@@ -5,3 +5,4 @@ pub mod Ours
 pub mod Places
 pub mod Own
 pub mod OwnShown
+pub mod Inner

@@ -1,6 +1,5 @@
 -- The header of an archive, and the root that commits to all of it.
-use Rattle.std.specs.Prelude.{◌≡◌, ℕ, List, ◌∷◌, length, true}
-use Rattle.std.specs.Str.{bytes_eq}
+use Rattle.std.specs.Prelude.{ℕ, List, ◌∷◌, length}
 use Rattle.ats_tree.specs.Tree.{mth}
 use Rattle.ats_dict.specs.Dictionary.{dict_leaves}
 use Rattle.ats_dict.specs.Header.{header_bytes, IsHeader}
@@ -50,11 +49,3 @@ header_string format h = header_tag format ∷ header_bytes h.documents h.dict_l
 -- the root of an archive with this header and format
 abbrev pub header_root : (List ℕ → List ℕ) → Format → Header → List ℕ
 header_root H format h = H (header_string format h)
-
--- the string of an archive's own header
-abbrev pub own_header_string : (List ℕ → List ℕ) → Archive → List ℕ
-own_header_string H archive = header_string archive.format (header_parts H archive)
-
--- the header has the string of the archive's own
-abbrev pub HasOwnHeader : (List ℕ → List ℕ) → Archive → Format → Header → Type 0
-HasOwnHeader H archive format header = bytes_eq (own_header_string H archive) (header_string format header) ≡ true

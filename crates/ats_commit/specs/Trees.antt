@@ -1,5 +1,5 @@
 -- The trees of an archive, each as the list of its leaves, under a hash function H.
-use Rattle.std.specs.Prelude.{◌<◌, ◌≤◌, ◌^◌, ℕ, List, length, map}
+use Rattle.std.specs.Prelude.{ℕ, List, length, map}
 use Rattle.ats_tree.specs.Tree.{mth}
 use Rattle.ats_lists.specs.Formats.{list_root}
 use Rattle.ats_postings.specs.Lists.{lists_of}
@@ -35,9 +35,3 @@ documents_of H texts = map (λ text. documents_leaf H (terms_leaves (text_terms 
 -- the bytes of a documents leaf
 abbrev pub leaf_of : DocLeaf → List ℕ
 leaf_of leaf = doc_leaf_bytes leaf.leaves leaf.root
-
--- at least one document, none past the last; the numbers have 32 bits
-pub record IsRange (from to documents : ℕ) : Type 0 where
-  pub some : from < to
-  pub within : to ≤ documents
-  pub few : to < 2 ^ 32

@@ -18,7 +18,7 @@ pub struct TextLeaves<'a> {
 
 impl<'a> Model for TextLeaves<'a> {
     ghost use Rattle.std.specs.Prelude.{List, ℕ, length, slice_range};
-    ghost use Rattle.ats_commit.specs.Trees.{IsRange};
+    ghost use Rattle.ats_commit.specs.Inner.Trees.{IsRange};
 
     ghost Value = { List (List ℕ) };
 

@@ -1,7 +1,7 @@
 //! Whether slots say that all their terms are present.
 
 ghost use Rattle.std.specs.Prelude.{◌≡◌, ◌+◌, ◌≤◌, ◌^◌, length};
-ghost use Rattle.ats_client.specs.SeenTerms.{document_of};
+ghost use Rattle.ats_client.specs.Inner.SeenTerms.{document_of};
 ghost use Rattle.ats_proof.specs.SeenDocs.{section_of};
 ghost use Rattle.ats_conjunction.specs.Documents.{are_present, shows_all};
 

@@ -2,7 +2,7 @@
 use Rattle.std.proofs.Common.{◌≡◌, ℕ, ◌^◌, ◌≤◌, List, length, take, reverse, true, sym, ◌∙◌, ap}
 use Rattle.std.proofs.Math.Seq.{take-length}
 use Rattle.ats_consistency.specs.Pair.{Roots, roots}
-use Rattle.ats_consistency.specs.Paired.{ArePaired}
+use Rattle.ats_consistency.specs.Inner.Paired.{ArePaired}
 use Rattle.ats_consistency.specs.Rules.{digests_needed, texts_roots}
 use Rattle.ats_consistency.specs.Shape.{turns, need}
 use Rattle.ats_consistency.specs.Value.{Growth, AreInRange}

@@ -4,7 +4,7 @@ use Rattle.std.proofs.lemmas.List.{length-drop}
 use Rattle.ats_tree.specs.Paths.{Path}
 use Rattle.ats_tree.specs.Tree.{IsPowerOfTwo}
 use Rattle.ats_consistency.specs.Pair.{Roots, roots}
-use Rattle.ats_consistency.specs.Paired.{ArePaired}
+use Rattle.ats_consistency.specs.Inner.Paired.{ArePaired}
 use Rattle.ats_consistency.specs.Shape.{turns, need}
 use Rattle.ats_consistency.proofs.Digests.{one-more, drop-more}
 use Rattle.ats_consistency.proofs.Leads.{turns-left, turns-right}

@@ -1,9 +1,9 @@
 pub mod Shape
 pub mod Pair
-pub mod Paired
 pub mod Grammar
 pub mod Value
 pub mod Rules
 pub mod Bytes
 pub mod Strings
 pub mod Headline
+pub mod Inner

@@ -17,11 +17,6 @@ pub record Growth : Type 0 where
   pub new : Header
   pub digests : List (List ℕ)
 
--- the growth with these parts
-abbrev pub growth_of : Format → Header → Format → Header → List (List ℕ) → Growth
-growth_of old_format old new_format new digests =
-    record { old_format = old_format; old = old; new_format = new_format; new = new; digests = digests }
-
 -- all fields, in the table's order
 abbrev pub fields_of : Growth → List (List ℕ)
 fields_of g =

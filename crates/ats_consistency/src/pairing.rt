@@ -2,7 +2,7 @@
 
 ghost use Rattle.std.specs.Prelude.{◌≡◌, ◌+◌, ◌*◌, ◌^◌, ◌<◌, ◌≤◌, length, drop, Some, slice_get};
 ghost use Rattle.ats_proof.specs.Seen.{digests_of};
-ghost use Rattle.ats_consistency.specs.Paired.{ArePaired};
+ghost use Rattle.ats_consistency.specs.Inner.Paired.{ArePaired};
 ghost use Rattle.ats_consistency.specs.Shape.{turns, need};
 
 use ats_hash::{Hash32, Steps};

@@ -35,7 +35,8 @@ pub struct GrowthView<'a> {
 
 impl<'a> Model for GrowthView<'a> {
     ghost use Rattle.ats_proof.specs.Seen.{digests_of};
-    ghost use Rattle.ats_consistency.specs.Value.{Growth, AreInRange, growth_of};
+    ghost use Rattle.ats_consistency.specs.Value.{Growth, AreInRange};
+    ghost use Rattle.ats_consistency.specs.Inner.Value.{growth_of};
 
     ghost Value = { Growth };
 

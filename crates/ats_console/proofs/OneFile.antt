@@ -2,7 +2,7 @@
 use Rattle.std.proofs.Common.{◌≡◌, ◌∙◌, List, ℕ, sym, ap, inl, inr}
 use Rattle.ats_refusal.specs.declared.proof.Rejection.TheVariants.{Shape}
 use Rattle.ats_grammar.specs.declared.fault.ShapeFault.{ShapeFault}
-use Rattle.ats_plan.specs.Sound.{IsOne}
+use Rattle.ats_plan.specs.Inner.Sound.{IsOne}
 use Rattle.ats_console.specs.RejectionLines.{refused_line, line_of_rejection}
 use Rattle.ats_console.specs.Steps.{RejectsFile}
 use Rattle.ats_console.specs.declared.stops.Stop.{Stop}

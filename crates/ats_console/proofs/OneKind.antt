@@ -24,7 +24,7 @@ use Rattle.ats_conjunction.specs.Bytes.{AreAcceptedBytes, AreRefusedBytes}
 use Rattle.ats_conjunction.proofs.Public.{one_of_bytes, not_refused}
 use Rattle.ats_refusal.specs.Words.{text_refusal_words, both_refusal_words, growth_refusal_words}
 use Rattle.ats_plan.specs.Plan.{Plan}
-use Rattle.ats_plan.specs.Sound.{IsOne}
+use Rattle.ats_plan.specs.Inner.Sound.{IsOne}
 use Rattle.ats_console.specs.Kinds.{Kind, text_kind, both_kind, growth_kind, checks_named}
 use Rattle.ats_console.specs.declared.stops.Stop.{Stop}
 use Rattle.ats_console.specs.declared.stops.Stop.TheVariants.{Usage}

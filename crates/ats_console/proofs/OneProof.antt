@@ -7,7 +7,7 @@ use Rattle.ats_proof.specs.Value.{Proof, IsProof, fields_of}
 use Rattle.ats_honest.specs.Honest.{IsHonest, IsTooLong, length_of}
 use Rattle.ats_honest.proofs.Public.{one_proof}
 use Rattle.ats_console.specs.Making.{IsMade, IsNotTooLong, IsUnmade}
-use Rattle.ats_plan.specs.Sound.{IsExact}
+use Rattle.ats_plan.specs.Inner.Sound.{IsExact}
 use Rattle.ats_console.specs.Stops.{line_of_long_proof}
 use Rattle.ats_console.specs.declared.stops.Stop.{Stop}
 use Rattle.ats_console.specs.declared.stops.Stop.TheVariants.{Input}

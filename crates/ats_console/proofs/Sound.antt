@@ -23,12 +23,13 @@ use Rattle.ats_refusal.specs.declared.proof.Rejection.{Rejection}
 use Rattle.ats_client.proofs.Public.{accepted_kept, one_rejection}
 use Rattle.ats_plan.specs.Files.{Files}
 use Rattle.ats_plan.specs.Plan.{Plan, Finishes, Stores, Fails, Tries, Gets, Makes, Reads}
-use Rattle.ats_plan.specs.Avoids.{Avoids}
-use Rattle.ats_plan.specs.Sound.{IsExact, IsOne, IsSound}
+use Rattle.ats_plan.specs.Inner.Avoids.{Avoids}
+use Rattle.ats_plan.specs.Inner.Sound.{IsExact, IsOne, IsSound}
 use Rattle.ats_console.specs.Input.{AreJsonTexts, IsFirstJsonFault}
 use Rattle.ats_console.specs.RejectionLines.{line_of_rejection}
 use Rattle.ats_console.specs.Stops.{line_of_rows, stop_of_query, stop_of_json, stop_of_collection, stop_of_load}
-use Rattle.ats_console.specs.Steps.{StopsBy, IsRowCount, asks_query, asks_ranking, reads_collection, reads_index, RejectsBytes, checks}
+use Rattle.ats_console.specs.Steps.{StopsBy, IsRowCount, asks_query, asks_ranking, reads_collection, reads_index, RejectsBytes}
+use Rattle.ats_console.specs.Inner.Steps.{checks}
 use Rattle.ats_console.specs.declared.stops.Stop.{Stop}
 use Rattle.ats_console.specs.declared.stops.Stop.TheVariants.{Usage, Shelf, Input, Rejected, Memory, Collision}
 use Rattle.ats_console.proofs.JsonLemmas.{same_texts, no_json_fault}

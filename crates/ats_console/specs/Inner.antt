@@ -1,3 +1,5 @@
 -- What the functions of the room promise one another. No public contract rests on it.
 
 pub mod Line
+pub mod Making
+pub mod Steps

@@ -10,8 +10,7 @@ use Rattle.ats_impact.specs.CollectionFaults.{IsFirstCollectionFault}
 use Rattle.ats_commit.specs.Archive.{Archive}
 use Rattle.ats_index.specs.Spelling.{IsSpelling}
 use Rattle.ats_index.specs.LoadFaults.{IsLoadFault}
-use Rattle.ats_proof.specs.Value.{Proof}
-use Rattle.ats_client.specs.Bytes.{IsAcceptedBytes, IsRejectedBytes}
+use Rattle.ats_client.specs.Bytes.{IsRejectedBytes}
 use Rattle.ats_refusal.specs.declared.proof.Rejection.{Rejection}
 use Rattle.ats_refusal.specs.declared.proof.Rejection.TheVariants.{Shape}
 use Rattle.ats_plan.specs.Plan.{Plan, Finishes, Fails, Tries, Gets, Reads}
@@ -78,12 +77,6 @@ abbrev pub RejectsBytes : (List ℕ → List ℕ) → (root : List ℕ) → List
     → Type 0
 RejectsBytes H root query r bytes stop = (rejection : Rejection)
     × IsRejectedBytes H root query r bytes rejection × (stop ≡ Rejected (line_of_rejection rejection))
-
--- the proof that the bytes spell, which is accepted
-abbrev pub checks : (List ℕ → List ℕ) → (root : List ℕ) → List (List ℕ × ℕ) → (r : ℕ) → (bytes : List ℕ)
-    → (Proof → Plan Stop) → Plan Stop
-checks H root query r bytes rest =
-    Gets Proof (IsAcceptedBytes H root query r bytes) (RejectsBytes H root query r bytes) rest
 
 -- ---- files of other kinds, which are checked like proofs
 

@@ -11,7 +11,7 @@ use Rattle.ats_dict.specs.declared.dictionary.Stored.{Stored}
 use Rattle.ats_dict.specs.Entry.{DictEntry, IsDictEntry}
 use Rattle.ats_terms.specs.Order.{IsBelow}
 use Rattle.ats_dict.specs.Dictionary.{IsAboveLast, IsDictionary}
-use Rattle.ats_dict.specs.Packed.{front_of, entry_of, entries_of, IsPacked, ArePacked}
+use Rattle.ats_dict.specs.Inner.Packed.{front_of, entry_of, entries_of, IsPacked, ArePacked}
 
 -- a range within the bytes does not change if more bytes follow
 range_kept : (bytes more : List ℕ) (start end : ℕ) → start ≤ end → end ≤ length bytes → slice_range (bytes ++ more) start end ≡ slice_range bytes start end

@@ -1,5 +1,5 @@
 pub mod Header
 pub mod Entry
 pub mod Dictionary
-pub mod Packed
 pub mod Found
+pub mod Inner

@@ -64,7 +64,7 @@ impl Model for Dictionary {
 
     ghost Value = { List DictEntry };
 
-    ghost use Rattle.ats_dict.specs.Packed.{entries_of, ArePacked};
+    ghost use Rattle.ats_dict.specs.Inner.Packed.{entries_of, ArePacked};
 
     ghost view = { λ d. entries_of d.fronts.items d.entries.items };
 

@@ -12,7 +12,7 @@ use Rattle.ats_impact.proofs.Public.{impact_small}
 use Rattle.ats_doctree.specs.Impacts.{with_impacts, IsImpact, AreImpacts}
 use Rattle.ats_doctree.specs.Sentinels.{high, item_at}
 use Rattle.ats_doctree.proofs.Positions.{item_at-suc, item_at-last}
-use Rattle.ats_doctree.specs.Kept.{AreCounts}
+use Rattle.ats_doctree.specs.Inner.Kept.{AreCounts}
 
 abbrev with_impact : ℕ → ℕ → ℕ → List ℕ × ℕ → List ℕ × ℕ
 with_impact total len documents pair = (pair.0, impact pair.1 total len documents)

@@ -2,4 +2,4 @@ pub mod Impacts
 pub mod Sentinels
 pub mod Found
 pub mod DocumentLeaf
-pub mod Kept
+pub mod Inner

@@ -31,7 +31,7 @@ pub struct DocTerms {
 impl Model for DocTerms {
     ghost use Rattle.std.specs.Prelude.{List, ℕ};
     ghost use Rattle.ats_doctree.specs.Impacts.{with_impacts};
-    ghost use Rattle.ats_doctree.specs.Kept.{AreCounts};
+    ghost use Rattle.ats_doctree.specs.Inner.Kept.{AreCounts};
 
     ghost Value = { List (List ℕ × ℕ) };
 

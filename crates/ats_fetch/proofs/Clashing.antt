@@ -6,7 +6,8 @@ use Rattle.std.specs.Str.{bytes_eq}
 use Rattle.std.proofs.lemmas.Bool.{cond-true, cond-false}
 use Rattle.ats_commit.specs.Archive.{Archive}
 use Rattle.ats_commit.specs.Own.{AreTexts}
-use Rattle.ats_commit.specs.Root.{header_string, own_header_string, HasOwnHeader, root_of}
+use Rattle.ats_commit.specs.Root.{header_string, root_of}
+use Rattle.ats_commit.specs.Inner.Root.{own_header_string, HasOwnHeader}
 use Rattle.ats_tree.specs.Clashes as tree
 use Rattle.ats_tree.specs.Differences.{Hashed, moved, Difference, first_collision}
 use Rattle.ats_tree.specs.Nodes.{Node, NodeNumbers, numbers_of}

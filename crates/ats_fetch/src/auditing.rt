@@ -2,7 +2,8 @@
 
 ghost use Rattle.std.specs.Prelude.{◌≡◌, ◌+◌, ◌*◌, ◌≤◌, ◌<◌, ◌^◌, ℕ, List, ◌∷◌, length, map, true, IfOk, IfSome, MatchOption, option_map};
 ghost use Rattle.std.specs.Str.{bytes_eq};
-ghost use Rattle.ats_commit.specs.Root.{HasOwnHeader, root_of};
+ghost use Rattle.ats_commit.specs.Root.{root_of};
+ghost use Rattle.ats_commit.specs.Inner.Root.{HasOwnHeader};
 ghost use Rattle.ats_tree.specs.Differences.{moved, first_collision};
 ghost use Rattle.ats_tree.specs.Nodes.{numbers_of};
 ghost use Rattle.ats_tree.specs.Strings.{node_strings};

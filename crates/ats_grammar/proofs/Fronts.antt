@@ -11,7 +11,8 @@ use Rattle.ats_grammar.specs.declared.next.Next.{Next}
 use Rattle.ats_grammar.specs.declared.next.Next.TheVariants as next
 use Rattle.ats_grammar.specs.Table.{Table, Schema, End, Number, Bytes, number, head, follow, size_of}
 use Rattle.ats_grammar.specs.Front.{IsField, Come, IsFront, Spells, IsSpelling, IsLongest, IsBad, IsOpen, kind_of}
-use Rattle.ats_grammar.specs.Reading.{IsNumberOf, IsTaken, IsStuck, IsRefused, IsReached}
+use Rattle.ats_grammar.specs.Reading.{IsNumberOf, IsReached}
+use Rattle.ats_grammar.specs.Inner.Reading.{IsTaken, IsStuck, IsRefused}
 
 -- ---- fields of one size
 

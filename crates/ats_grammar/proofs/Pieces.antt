@@ -14,9 +14,11 @@ use Rattle.ats_grammar.specs.Table.{Table, End, Number, Bytes, number, head, fol
 use Rattle.ats_grammar.specs.Grammar.{proof_schema}
 use Rattle.ats_grammar.specs.Front.{IsField, IsFront, IsSpelling, IsFirst, IsBad}
 use Rattle.ats_grammar.specs.State.{remaining}
-use Rattle.ats_grammar.specs.Reading.{IsNumberOf, IsTaken, IsStuck, IsRefused, IsReached}
-use Rattle.ats_grammar.specs.Pending.{is_cut, is_term, may_be_empty, HasOwnKind}
-use Rattle.ats_grammar.specs.Standing.{IsAt, IsOn, IsWaiting, IsWrong}
+use Rattle.ats_grammar.specs.Reading.{IsNumberOf, IsReached}
+use Rattle.ats_grammar.specs.Inner.Reading.{IsTaken, IsStuck, IsRefused}
+use Rattle.ats_grammar.specs.Inner.Pending.{is_cut, is_term, may_be_empty, HasOwnKind}
+use Rattle.ats_grammar.specs.Standing.{IsAt, IsWaiting}
+use Rattle.ats_grammar.specs.Inner.Standing.{IsOn, IsWrong}
 use Rattle.ats_grammar.specs.declared.feeder.Place.{Place}
 use Rattle.ats_grammar.specs.declared.feeder.Place.TheVariants as places
 use Rattle.ats_grammar.specs.Feeding.{StandsAt}

@@ -6,7 +6,7 @@ use Rattle.ats_grammar.specs.declared.fault.ShapeKind.{ShapeKind}
 use Rattle.ats_grammar.specs.declared.next.Next.TheVariants as next
 use Rattle.ats_grammar.specs.declared.reader.Reader.{Reader}
 use Rattle.ats_grammar.specs.Table.{Table, Number, Bytes, spelled, AreBytes, head, follow}
-use Rattle.ats_grammar.specs.Reading.{IsTaken, IsRefused}
+use Rattle.ats_grammar.specs.Inner.Reading.{IsTaken, IsRefused}
 use Rattle.ats_grammar.specs.Position.{StandsBefore, Passes, HasFault}
 use Rattle.ats_grammar.proofs.Fronts.{front_more, refused}
 use Rattle.ats_grammar.proofs.Spelling.{spelled-number}

@@ -10,7 +10,8 @@ use Rattle.ats_grammar.specs.declared.next.Next.{Next}
 use Rattle.ats_grammar.specs.declared.next.Next.TheVariants as next
 use Rattle.ats_grammar.specs.Table.{Table, Schema, number, head, follow, size_of}
 use Rattle.ats_grammar.specs.Front.{IsFront, IsLongest, IsFirst}
-use Rattle.ats_grammar.specs.Reading.{IsNumberOf, IsStuck, IsRefused}
+use Rattle.ats_grammar.specs.Reading.{IsNumberOf}
+use Rattle.ats_grammar.specs.Inner.Reading.{IsStuck, IsRefused}
 use Rattle.ats_grammar.proofs.Fronts.{field_size, front_more, longest}
 
 number_itself : (n : Next) (field : List ℕ) → IsNumberOf n field (number field)

@@ -8,3 +8,4 @@ pub mod Position
 pub mod Standing
 pub mod Inside
 pub mod Feeding
+pub mod Inner

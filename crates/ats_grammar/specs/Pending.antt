@@ -1,34 +1,10 @@
 -- What the next field may be: one that finds a term present, an empty one; and that its own fault is no cut.
-use Rattle.std.specs.Prelude.{◌≡◌, ℕ, Bool, true, false, if◌then◌else◌}
-use Rattle.ats_grammar.specs.declared.fault.ShapeKind.{ShapeKind}
-use Rattle.ats_grammar.specs.declared.fault.ShapeKind.TheVariants.{Cut}
-use Rattle.ats_grammar.specs.declared.next.Next.{Next}
-use Rattle.ats_grammar.specs.declared.next.Next.TheVariants as next
-use Rattle.ats_grammar.specs.declared.state.DictPart.TheVariants as dict
+use Rattle.std.specs.Prelude.{ℕ}
 use Rattle.ats_grammar.specs.declared.state.MetPart.TheVariants.{SlotKind}
-use Rattle.ats_grammar.specs.declared.state.TermsPart.TheVariants as terms
 use Rattle.ats_grammar.specs.declared.state.Part.{Part}
-use Rattle.ats_grammar.specs.declared.state.Part.TheVariants.{Dict, Met, Terms}
+use Rattle.ats_grammar.specs.declared.state.Part.TheVariants.{Met}
 
 -- how many terms the next field may find present
 abbrev pub pending : Part → ℕ
 pending (Met SlotKind) = 1
 pending _ = 0
-
--- a term may have no bytes; no other field does
-abbrev pub is_term : Part → Bool
-is_term (Dict dict.Term) = true
-is_term (Terms terms.Term) = true
-is_term _ = false
-
-abbrev pub may_be_empty : Part → ℕ
-may_be_empty part = if is_term part then 1 else 0
-
-abbrev pub is_cut : ShapeKind → Bool
-is_cut Cut = true
-is_cut _ = false
-
--- a number that is out of range is not reported as a cut
-abbrev pub HasOwnKind : Next → Type 0
-HasOwnKind (next.Number size low high kind) = is_cut kind ≡ false
-HasOwnKind _ = Unit {0}

@@ -1,7 +1,6 @@
 -- What may still come in a proof, by the state of its reader.
-use Rattle.std.specs.Prelude.{◌≡◌, ◌<◌, ◌+◌, ◌*◌, ℕ, suc, ◌==◌}
+use Rattle.std.specs.Prelude.{suc, ◌==◌}
 use Rattle.ats_grammar.specs.declared.fault.ShapeKind.TheVariants.{Version, Algorithm, Count}
-use Rattle.ats_grammar.specs.declared.next.Next.{Next}
 use Rattle.ats_grammar.specs.declared.state.FrontPart.{FrontPart}
 use Rattle.ats_grammar.specs.declared.state.FrontPart.TheVariants as front
 use Rattle.ats_grammar.specs.declared.state.DictPart.{DictPart}
@@ -17,8 +16,7 @@ use Rattle.ats_grammar.specs.declared.state.TermsPart.TheVariants as terms
 use Rattle.ats_grammar.specs.declared.state.Part.{Part}
 use Rattle.ats_grammar.specs.declared.state.Part.TheVariants as parts
 use Rattle.ats_grammar.specs.declared.state.State.{State}
-use Rattle.ats_grammar.specs.Table.{Table, End, Number, Bytes, head, follow, size_of, IsSized}
-use Rattle.ats_grammar.specs.Pending.{may_be_empty, HasOwnKind}
+use Rattle.ats_grammar.specs.Table.{Table, End, Number, Bytes}
 use Rattle.ats_grammar.specs.Grammar.{proof, header, query_terms, dictionary, dict_leaves, dict_digests, slots, index, met, met_ids, prefixes, entries, list_digests, documents, doc_leaves, doc_digests, term_sections, term_leaves, term_digests, doc_slots, answer, rows, digests, any_2, any_4, term_length}
 
 abbrev pub in_front : FrontPart → State → Table
@@ -107,17 +105,3 @@ remaining_in (parts.Terms p) s = in_terms p s
 -- what comes next, and all that comes after it
 abbrev pub remaining : State → Table
 remaining s = remaining_in s.part s
-
--- this is what comes next, and all after it, and the next field is not empty
-abbrev pub IsBefore : State → Table → Type 0
-IsBefore s table = (remaining s ≡ table) × (may_be_empty s.part ≡ 0)
-
--- this is the first field of the table
-abbrev pub IsNext : Table → Next → Type 0
-IsNext table next = (next ≡ head table) × IsSized next × HasOwnKind next
-
--- The state is past the first field of the table, which is this number if it is one. Fewer bytes are left, or the field
--- was empty and the next one is not.
-abbrev pub IsPast : (before after : State) → Table → ℕ → Type 0
-IsPast before after table number = (remaining after ≡ follow table number)
-    × (may_be_empty after.part < may_be_empty before.part + 2 * size_of (head table))

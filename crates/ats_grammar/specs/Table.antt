@@ -1,5 +1,5 @@
 -- What may come next in the bytes of a proof, field by field.
-use Rattle.std.specs.Prelude.{◌≡◌, ◌⊎◌, ℕ, zero, suc, ◌<◌, ◌≤◌, ◌+◌, ◌*◌, ◌/◌, ◌%◌, ◌^◌, List, [], ◌∷◌, length, get_or}
+use Rattle.std.specs.Prelude.{ℕ, zero, suc, ◌<◌, ◌+◌, ◌*◌, ◌/◌, ◌%◌, ◌^◌, List, [], ◌∷◌, length, get_or}
 use Rattle.ats_grammar.specs.declared.fault.ShapeKind.{ShapeKind}
 use Rattle.ats_grammar.specs.declared.next.Next.{Next}
 use Rattle.ats_grammar.specs.declared.next.Next.TheVariants as next
@@ -42,20 +42,8 @@ follow End n = End
 follow (Number size low high kind rest) n = rest n
 follow (Bytes size rest) n = rest
 
--- the number is in the range of the first field, if there is one; bytes of any content have no range
-abbrev pub IsWithin : Table → ℕ → Type 0
-IsWithin End n = ⊥
-IsWithin (Number size low high kind rest) n = (low ≤ n) × (n ≤ high)
-IsWithin (Bytes size rest) n = Unit {0}
-
 -- how many bytes the field has
 abbrev pub size_of : Next → ℕ
 size_of next.End = 0
 size_of (next.Number size low high kind) = size
 size_of (next.Bytes size) = size
-
--- a number has 1, 2 or 4 bytes
-abbrev pub IsSized : Next → Type 0
-IsSized next.End = Unit {0}
-IsSized (next.Number size low high kind) = (size ≡ 1) ⊎ (size ≡ 2) ⊎ (size ≡ 4)
-IsSized (next.Bytes size) = Unit {0}

@@ -3,8 +3,9 @@
 ghost use Rattle.std.specs.Prelude.{◌≡◌};
 ghost use Rattle.ats_grammar.specs.declared.state.Part.TheVariants as parts;
 ghost use Rattle.ats_grammar.specs.Pending.{pending};
-ghost use Rattle.ats_grammar.specs.Table.{IsWithin};
-ghost use Rattle.ats_grammar.specs.State.{in_front, in_dict, in_met, in_list, in_docs, in_terms, remaining_in, remaining, IsPast};
+ghost use Rattle.ats_grammar.specs.Inner.Table.{IsWithin};
+ghost use Rattle.ats_grammar.specs.State.{in_front, in_dict, in_met, in_list, in_docs, in_terms, remaining_in, remaining};
+ghost use Rattle.ats_grammar.specs.Inner.State.{IsPast};
 
 use crate::state::{DictPart, DocsPart, FrontPart, ListPart, MetPart, Part, State, TermsPart};
 

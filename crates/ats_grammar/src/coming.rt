@@ -1,10 +1,12 @@
 //! The field that comes next, by the state of a reader.
 
 ghost use Rattle.std.specs.Prelude.{◌≡◌};
-ghost use Rattle.ats_grammar.specs.Table.{head, IsSized};
+ghost use Rattle.ats_grammar.specs.Table.{head};
+ghost use Rattle.ats_grammar.specs.Inner.Table.{IsSized};
 ghost use Rattle.ats_grammar.specs.Grammar.{proof};
-ghost use Rattle.ats_grammar.specs.Pending.{HasOwnKind};
-ghost use Rattle.ats_grammar.specs.State.{in_front, in_dict, in_met, in_list, in_docs, in_terms, remaining, IsNext};
+ghost use Rattle.ats_grammar.specs.Inner.Pending.{HasOwnKind};
+ghost use Rattle.ats_grammar.specs.State.{in_front, in_dict, in_met, in_list, in_docs, in_terms, remaining};
+ghost use Rattle.ats_grammar.specs.Inner.State.{IsNext};
 
 use crate::fault::ShapeKind;
 use crate::next::Next;

@@ -1,10 +1,9 @@
 //! The state of a reader before a run of parts, which may be empty.
 
 ghost use Rattle.std.specs.Prelude.{◌+◌, ◌<◌, ◌^◌};
-ghost use Rattle.ats_grammar.specs.Grammar.{dict_leaves, dict_digests, digests, slots, met_ids, prefixes};
-ghost use Rattle.ats_grammar.specs.Grammar.{entries, list_digests, documents, doc_leaves, doc_digests};
-ghost use Rattle.ats_grammar.specs.Grammar.{term_sections, term_leaves, term_digests, doc_slots, rows};
-ghost use Rattle.ats_grammar.specs.State.{lists_left, sections_left, docs_left, IsBefore};
+ghost use Rattle.ats_grammar.specs.Grammar.{dict_leaves, dict_digests, digests, slots, met_ids, prefixes, entries, list_digests, documents, doc_leaves, doc_digests, term_sections, term_leaves, term_digests, doc_slots, rows};
+ghost use Rattle.ats_grammar.specs.State.{lists_left, sections_left, docs_left};
+ghost use Rattle.ats_grammar.specs.Inner.State.{IsBefore};
 
 use crate::state::{DictPart, DocsPart, ListPart, MetPart, Part, State, TermsPart};
 

@@ -7,7 +7,8 @@ ghost use Rattle.ats_grammar.specs.Front.{IsSpelling, IsBad};
 ghost use Rattle.ats_grammar.specs.Grammar.{proof_schema};
 ghost use Rattle.ats_grammar.specs.Table.{head};
 ghost use Rattle.ats_grammar.specs.State.{remaining};
-ghost use Rattle.ats_grammar.specs.Standing.{IsAt, IsWaiting, IsWrong};
+ghost use Rattle.ats_grammar.specs.Standing.{IsAt, IsWaiting};
+ghost use Rattle.ats_grammar.specs.Inner.Standing.{IsWrong};
 ghost use Rattle.ats_grammar.specs.Feeding.{StandsFor};
 
 use crate::fault::{ShapeFault, ShapeKind};

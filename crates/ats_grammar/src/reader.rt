@@ -2,10 +2,11 @@
 
 ghost use Rattle.std.specs.Prelude.{◌≡◌, ◌≢◌, ◌⊎◌, ℕ, ◌+◌, ◌≤◌, List, [], ◌∷◌, ◌++◌, length, IfOk, IfErr, OnOk, OnErr};
 ghost use Rattle.ats_grammar.specs.declared.next.Next.TheVariants as comes;
-ghost use Rattle.ats_grammar.specs.Table.{Table, Schema, End, Number, Bytes, spelled, IsSized};
+ghost use Rattle.ats_grammar.specs.Table.{Table, Schema, End, Number, Bytes, spelled};
+ghost use Rattle.ats_grammar.specs.Inner.Table.{IsSized};
 ghost use Rattle.ats_grammar.specs.Grammar.{digests, header};
 ghost use Rattle.ats_grammar.specs.Front.{Spells, IsLong};
-ghost use Rattle.ats_grammar.specs.Reading.{IsTaken, IsRefused};
+ghost use Rattle.ats_grammar.specs.Inner.Reading.{IsTaken, IsRefused};
 
 use crate::coming::MAX_DOCUMENTS;
 use crate::fault::{ShapeFault, ShapeKind};

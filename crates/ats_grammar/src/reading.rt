@@ -1,9 +1,10 @@
 //! Reading a proof field by field.
 
 ghost use Rattle.std.specs.Prelude.{◌≡◌, ◌⊎◌, [], length, IfOk, IfErr, IfSome, IfNone};
-ghost use Rattle.ats_grammar.specs.Table.{AreBytes, IsSized, number};
+ghost use Rattle.ats_grammar.specs.Table.{AreBytes, number};
+ghost use Rattle.ats_grammar.specs.Inner.Table.{IsSized};
 ghost use Rattle.ats_grammar.specs.declared.next.Next.TheVariants.{End};
-ghost use Rattle.ats_grammar.specs.Reading.{IsTaken, IsRefused};
+ghost use Rattle.ats_grammar.specs.Inner.Reading.{IsTaken, IsRefused};
 
 use crate::fault::ShapeKind;
 use crate::next::Next;

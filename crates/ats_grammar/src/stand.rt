@@ -1,9 +1,10 @@
 //! The position of a reader of pieces.
 
 ghost use Rattle.std.specs.Prelude.{◌≡◌, ◌<◌, ◌≤◌, ◌+◌, ◌-◌, ◌*◌, ◌^◌};
-ghost use Rattle.ats_grammar.specs.Pending.{may_be_empty};
+ghost use Rattle.ats_grammar.specs.Inner.Pending.{may_be_empty};
 ghost use Rattle.ats_grammar.specs.State.{remaining};
-ghost use Rattle.ats_grammar.specs.Table.{head, follow, size_of, IsWithin};
+ghost use Rattle.ats_grammar.specs.Table.{head, follow, size_of};
+ghost use Rattle.ats_grammar.specs.Inner.Table.{IsWithin};
 
 use crate::state::State;
 

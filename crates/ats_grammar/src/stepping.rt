@@ -2,10 +2,12 @@
 
 ghost use Rattle.std.specs.Prelude.{◌≡◌, ◌⊎◌, ℕ, ◌+◌, ◌≤◌, List, ◌∷◌, ◌++◌, length, IfOk, IfErr, OnOk, OnErr, IfSome, IfNone};
 ghost use Rattle.ats_grammar.specs.declared.next.Next.TheVariants.{Number, Bytes};
-ghost use Rattle.ats_grammar.specs.Pending.{HasOwnKind};
-ghost use Rattle.ats_grammar.specs.Table.{head, size_of, IsSized};
+ghost use Rattle.ats_grammar.specs.Inner.Pending.{HasOwnKind};
+ghost use Rattle.ats_grammar.specs.Table.{head, size_of};
+ghost use Rattle.ats_grammar.specs.Inner.Table.{IsSized};
 ghost use Rattle.ats_grammar.specs.State.{remaining};
-ghost use Rattle.ats_grammar.specs.Standing.{IsAt, IsOn, IsStill, IsWrong};
+ghost use Rattle.ats_grammar.specs.Standing.{IsAt};
+ghost use Rattle.ats_grammar.specs.Inner.Standing.{IsOn, IsStill, IsWrong};
 
 use crate::fault::ShapeKind;
 use crate::next::Next;

@@ -5,12 +5,12 @@ use Rattle.ats_tree.specs.Paths.{Path}
 use Rattle.ats_tree.specs.Strings.{string_at}
 use Rattle.ats_tree.specs.Tree.{Tree, node, digest_of}
 use Rattle.ats_consistency.specs.Pair.{roots}
-use Rattle.ats_consistency.specs.Paired.{ArePaired}
+use Rattle.ats_consistency.specs.Inner.Paired.{ArePaired}
 use Rattle.ats_consistency.specs.Shape.{need}
 use Rattle.ats_consistency.specs.Strings.{old_strings, new_strings}
 use Rattle.ats_consistency.proofs.Public.{one-more, paired-left, paired-right}
-use Rattle.ats_growth.specs.Compared.{taken, IsEnd, IsJoined, AreCompared}
-use Rattle.ats_growth.specs.Unlike.{Two, first_unlike, unlike_or, strings_of}
+use Rattle.ats_growth.specs.Inner.Compared.{taken, IsEnd, IsJoined, AreCompared}
+use Rattle.ats_growth.specs.Inner.Unlike.{Two, first_unlike, unlike_or, strings_of}
 use Rattle.ats_growth.specs.declared.joining.Compared.{Compared}
 use Rattle.ats_growth.specs.declared.joining.Side.{Side}
 use Rattle.ats_growth.proofs.Unlikes.{unlike-left, unlike-right}

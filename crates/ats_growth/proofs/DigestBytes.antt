@@ -7,7 +7,8 @@ use Rattle.ats_tree.specs.Tree.{Tree, tree_of, digest_of, mth, IsPowerOfTwo}
 use Rattle.ats_tree.proofs.Public.{part-tree-cut}
 use Rattle.ats_consistency.specs.Shape.{turns}
 use Rattle.ats_consistency.proofs.Public.{reverse-first, turns-end, cut-left, cut-right}
-use Rattle.ats_growth.specs.Honest.{shown, digest_bytes}
+use Rattle.ats_growth.specs.Honest.{shown}
+use Rattle.ats_growth.specs.Inner.Honest.{digest_bytes}
 
 -- one digest more
 more-bytes : (d : List ℕ) (ds : List (List ℕ)) → concat (reverse (d ∷ ds)) ≡ concat (reverse ds) ++ d

@@ -9,7 +9,8 @@ use Rattle.std.proofs.lemmas.Option.{MatchOption-at_none}
 use Rattle.std.proofs.lemmas.Slice.Eq.{bytes_eq-Decides}
 use Rattle.ats_commit.specs.Archive.{Archive}
 use Rattle.ats_commit.specs.Own.{AreTexts}
-use Rattle.ats_commit.specs.Root.{header_string, own_header_string, HasOwnHeader, root_of}
+use Rattle.ats_commit.specs.Root.{header_string, root_of}
+use Rattle.ats_commit.specs.Inner.Root.{own_header_string, HasOwnHeader}
 use Rattle.ats_commit.proofs.Public.{own_numbers}
 use Rattle.ats_dict.specs.declared.header.Header.{Header}
 use Rattle.ats_lists.specs.declared.format.Format.{Format}
@@ -17,17 +18,16 @@ use Rattle.ats_tree.specs.Differences.{Hashed, Difference, first_difference}
 use Rattle.ats_tree.specs.Strings.{string_at}
 use Rattle.ats_tree.specs.Tree.{tree_of}
 use Rattle.ats_tree.proofs.Public.{difference-collides}
-use Rattle.ats_consistency.specs.Headline.{HasGrown}
-use Rattle.ats_consistency.specs.Headline.{IsPrefix}
+use Rattle.ats_consistency.specs.Headline.{HasGrown, IsPrefix}
 use Rattle.ats_consistency.specs.Rules.{AcceptsGrowth, digests_needed}
 use Rattle.ats_consistency.specs.Shape.{turns, need}
 use Rattle.ats_consistency.specs.Strings.{Beside, beside, header_pair, new_strings, old_strings, ranges, range_pairs, pairs, second_of, extract, part_of}
 use Rattle.ats_consistency.specs.Value.{Growth, IsGrowth, IsInRange, AreInRange}
 use Rattle.ats_consistency.specs.declared.checking.Grown.{Grown}
 use Rattle.ats_consistency.proofs.Public.{growth-binds}
-use Rattle.ats_growth.specs.Compared.{taken, AreCompared}
-use Rattle.ats_growth.specs.Found.{IsHeaderCollision, new_pairs, old_pairs, shared_pairs, texts_pairs, difference_of}
-use Rattle.ats_growth.specs.Unlike.{Two, first_unlike, strings_of, in_part}
+use Rattle.ats_growth.specs.Inner.Compared.{taken, AreCompared}
+use Rattle.ats_growth.specs.Inner.Found.{IsHeaderCollision, new_pairs, old_pairs, shared_pairs, texts_pairs, difference_of}
+use Rattle.ats_growth.specs.Inner.Unlike.{Two, first_unlike, strings_of, in_part}
 use Rattle.ats_growth.specs.Verdicts.{IsFoundGrown}
 use Rattle.ats_growth.specs.declared.auditing.Collided.{Collided}
 use Rattle.ats_growth.specs.declared.joining.Compared.{Compared}

@@ -16,9 +16,9 @@ use Rattle.ats_consistency.specs.Shape.{turns}
 use Rattle.ats_consistency.specs.Strings.{Beside, beside, header_pair, new_strings, old_strings, ranges, range_pairs, second_of, pairs, extract}
 use Rattle.ats_consistency.specs.Value.{Growth}
 use Rattle.ats_consistency.proofs.Public.{Shares, IsKnown}
-use Rattle.ats_growth.specs.Found.{texts_pairs}
+use Rattle.ats_growth.specs.Inner.Found.{texts_pairs}
 use Rattle.ats_growth.specs.Honest.{shown, digests_of, honest}
-use Rattle.ats_growth.specs.Unlike.{first_unlike}
+use Rattle.ats_growth.specs.Inner.Unlike.{first_unlike}
 use Rattle.ats_growth.proofs.Completeness.{shown-roots, prefix-shares, back}
 use Rattle.ats_growth.proofs.Ranging.{none-shared}
 use Rattle.ats_growth.proofs.Told.{in-moved, in-ranges, in-third}

@@ -14,7 +14,8 @@ use Rattle.ats_consistency.specs.Headline.{IsPrefix}
 use Rattle.ats_consistency.specs.Shape.{turns, need}
 use Rattle.ats_consistency.specs.Value.{IsInRange, AreInRange}
 use Rattle.ats_consistency.proofs.Public.{All-reverse, leads, depth, need-turns}
-use Rattle.ats_growth.specs.Honest.{shown, digests_of, digest_bytes, honest}
+use Rattle.ats_growth.specs.Honest.{shown, digests_of, honest}
+use Rattle.ats_growth.specs.Inner.Honest.{digest_bytes}
 use Rattle.ats_growth.proofs.Completeness.{prefix-shares, prefix-shorter, length-shown, sized-shown}
 
 -- runs of bytes that are appended one after another

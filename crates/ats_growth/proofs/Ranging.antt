@@ -10,8 +10,8 @@ use Rattle.ats_tree.specs.Tree.{Tree, empty, leaf, node, digest_of}
 use Rattle.ats_tree.proofs.Public.{part-leaf}
 use Rattle.ats_consistency.specs.Strings.{Range, beside, all_strings, ranges, range_pairs, second_of, part_of}
 use Rattle.ats_consistency.proofs.Public.{Shares}
-use Rattle.ats_growth.specs.Compared.{IsJoined, IsRange}
-use Rattle.ats_growth.specs.Unlike.{Two, first_unlike, unlike_or, or_two, strings_of}
+use Rattle.ats_growth.specs.Inner.Compared.{IsJoined, IsRange}
+use Rattle.ats_growth.specs.Inner.Unlike.{Two, first_unlike, unlike_or, or_two, strings_of}
 use Rattle.ats_growth.specs.declared.joining.Side.{Side}
 use Rattle.ats_growth.proofs.Unlikes.{unlike-first, unlike-moved, unlike-append, unlike-both, unlike-none}
 

@@ -10,7 +10,7 @@ use Rattle.ats_tree.specs.Strings.{string_at}
 use Rattle.ats_tree.specs.Tree.{Tree}
 use Rattle.ats_tree.proofs.Public.{or_else, difference-append}
 use Rattle.ats_consistency.specs.Strings.{Beside, Range, beside, all_strings, range_pairs, second_of}
-use Rattle.ats_growth.specs.Unlike.{Two, two_of, first_unlike, or_two, in_part}
+use Rattle.ats_growth.specs.Inner.Unlike.{Two, two_of, first_unlike, or_two, in_part}
 use Rattle.ats_growth.proofs.Unlikes.{unlike-append}
 
 -- all of the strings that differ are in this part

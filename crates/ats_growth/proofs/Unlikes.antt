@@ -11,7 +11,7 @@ use Rattle.ats_tree.specs.Strings.{below, string_at}
 use Rattle.ats_tree.specs.Tree.{Tree, empty, leaf, node, digest_of}
 use Rattle.ats_tree.proofs.Public.{or_else, difference-append, moved_difference, difference-moved}
 use Rattle.ats_consistency.specs.Strings.{all_strings}
-use Rattle.ats_growth.specs.Unlike.{Two, two_of, first_unlike, unlike_or, or_two}
+use Rattle.ats_growth.specs.Inner.Unlike.{Two, two_of, first_unlike, unlike_or, or_two}
 
 -- ---- one string before others
 

@@ -1,6 +1,5 @@
 -- The growth of an archive whose texts are the first of another one's.
 use Rattle.std.specs.Prelude.{◌≡◌, ◌≢◌, ◌<◌, ℕ, List, [], ◌∷◌, length, reverse, Bool, true, false, slice_get}
-use Rattle.std.specs.List.{concat}
 use Rattle.ats_tree.specs.Paths.{Path}
 use Rattle.ats_tree.specs.Tree.{Tree, empty, leaf, node, tree_of, digest_of}
 use Rattle.ats_commit.specs.Archive.{Archive}
@@ -44,7 +43,3 @@ pub record IsFirstApart (old new : List (List ℕ)) (doc : ℕ) : Type 0 where
 abbrev pub IsGrowFault : List (List ℕ) → List (List ℕ) → GrowFault → Type 0
 IsGrowFault old new (Differs doc) = IsFirstApart old new doc
 IsGrowFault old new OutOfMemory = Unit {0}
-
--- these digests, joined
-abbrev pub digest_bytes : (List ℕ → List ℕ) → Path → Bool → Tree (List ℕ) → List ℕ
-digest_bytes H path known tree = concat (reverse (shown H path known tree))

@@ -1,5 +1,3 @@
 pub mod Honest
 pub mod Verdicts
-pub mod Unlike
-pub mod Compared
-pub mod Found
+pub mod Inner

@@ -1,12 +1,13 @@
 //! The audit of a growth.
 
 ghost use Rattle.std.specs.Prelude.{◌≡◌, ◌∷◌, IfOk, MatchOption, option_map};
-ghost use Rattle.ats_commit.specs.Root.{HasOwnHeader, root_of};
+ghost use Rattle.ats_commit.specs.Root.{root_of};
+ghost use Rattle.ats_commit.specs.Inner.Root.{HasOwnHeader};
 ghost use Rattle.ats_tree.specs.Differences.{first_difference};
 ghost use Rattle.ats_consistency.specs.Rules.{AcceptsGrowth};
 ghost use Rattle.ats_consistency.specs.Strings.{second_of, extract};
-ghost use Rattle.ats_growth.specs.Found.{IsHeaderCollision, difference_in, difference_of, new_pairs, old_pairs, shared_pairs, texts_pairs};
-ghost use Rattle.ats_growth.specs.Unlike.{strings_of, first_unlike};
+ghost use Rattle.ats_growth.specs.Inner.Found.{IsHeaderCollision, difference_in, difference_of, new_pairs, old_pairs, shared_pairs, texts_pairs};
+ghost use Rattle.ats_growth.specs.Inner.Unlike.{strings_of, first_unlike};
 ghost use Rattle.ats_growth.specs.Verdicts.{IsGrowthVerdict, IsWellTold};
 
 use crate::comparing::{Texts, compare};

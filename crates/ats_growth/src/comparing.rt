@@ -3,11 +3,11 @@
 ghost use Rattle.std.specs.Prelude.{◌≡◌, ◌+◌, ◌*◌, ◌^◌, ◌<◌, ◌≤◌, ◌∷◌, ◌++◌, length, [], option_map};
 ghost use Rattle.ats_proof.specs.Seen.{digests_of};
 ghost use Rattle.ats_tree.specs.Tree.{digest_of};
-ghost use Rattle.ats_consistency.specs.Paired.{ArePaired};
+ghost use Rattle.ats_consistency.specs.Inner.Paired.{ArePaired};
 ghost use Rattle.ats_consistency.specs.Shape.{turns, need};
 ghost use Rattle.ats_consistency.specs.Strings.{part_of};
-ghost use Rattle.ats_growth.specs.Compared.{IsEnd, IsJoined, AreCompared};
-ghost use Rattle.ats_growth.specs.Unlike.{strings_of};
+ghost use Rattle.ats_growth.specs.Inner.Compared.{IsEnd, IsJoined, AreCompared};
+ghost use Rattle.ats_growth.specs.Inner.Unlike.{strings_of};
 
 use crate::joining::{Children, Compared, Side, joined};
 use ats_commit::TextLeaves;

@@ -5,7 +5,8 @@ ghost use Rattle.ats_tree.specs.Tree.{mth, tree_of};
 ghost use Rattle.ats_consistency.specs.Headline.{IsPrefix};
 ghost use Rattle.ats_consistency.specs.Shape.{turns};
 ghost use Rattle.ats_consistency.specs.Value.{IsGrowth};
-ghost use Rattle.ats_growth.specs.Honest.{honest, digest_bytes, IsFirstApart, IsGrowFault};
+ghost use Rattle.ats_growth.specs.Honest.{honest, IsFirstApart, IsGrowFault};
+ghost use Rattle.ats_growth.specs.Inner.Honest.{digest_bytes};
 
 use crate::comparing::digest_of_range;
 use crate::memory::OutOfMemory;

@@ -1,8 +1,8 @@
 //! One node on two sides: the strings there, and their digests.
 
 ghost use Rattle.std.specs.Prelude.{◌≡◌, ◌+◌, ◌<◌, ◌^◌, ◌∷◌, ◌++◌, option_map};
-ghost use Rattle.ats_growth.specs.Compared.{IsJoined};
-ghost use Rattle.ats_growth.specs.Unlike.{string_of, strings_of};
+ghost use Rattle.ats_growth.specs.Inner.Compared.{IsJoined};
+ghost use Rattle.ats_growth.specs.Inner.Unlike.{string_of, strings_of};
 
 use ats_hash::{Hash32, Steps};
 use ats_tree::HashedString;

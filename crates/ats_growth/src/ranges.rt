@@ -4,8 +4,8 @@ ghost use Rattle.std.specs.Prelude.{◌≡◌, ◌+◌, ◌*◌, ◌^◌, ◌<�
 ghost use Rattle.std.specs.List.{flat_map};
 ghost use Rattle.ats_consistency.specs.Shape.{turns};
 ghost use Rattle.ats_consistency.specs.Strings.{ranges, range_pairs, second_of, part_of};
-ghost use Rattle.ats_growth.specs.Compared.{IsRange};
-ghost use Rattle.ats_growth.specs.Unlike.{strings_of, first_unlike, unlike_or, or_two};
+ghost use Rattle.ats_growth.specs.Inner.Compared.{IsRange};
+ghost use Rattle.ats_growth.specs.Inner.Unlike.{strings_of, first_unlike, unlike_or, or_two};
 
 use crate::joining::{Children, Side, Unlike, joined};
 use ats_hash::{Hash32, Steps};

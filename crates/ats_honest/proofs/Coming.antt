@@ -17,7 +17,7 @@ use Rattle.ats_grammar.specs.Grammar as grammar
 use Rattle.ats_proof.specs.Parts.{spelled, counted}
 use Rattle.ats_proof.specs.Value.{ShownEntry, Prefix, Documents, documents_fields, Proof, fields_of, front_fields, header_fields, entry_fields, digest_fields, slot_fields, id_fields, number_of_algorithm, number_of_format, posting_fields, prefix_fields, kind_of_slot, present_in}
 use Rattle.ats_proof.proofs.Public.{header_comes, length-spelled, number-spelled}
-use Rattle.ats_honest.specs.Order.{AreInOrder}
+use Rattle.ats_honest.specs.Inner.Order.{AreInOrder}
 use Rattle.ats_honest.proofs.Spots.{IsLeaf}
 
 -- fields after fields

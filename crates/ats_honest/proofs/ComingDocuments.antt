@@ -10,7 +10,7 @@ use Rattle.ats_grammar.specs.Front.{Come}
 use Rattle.ats_grammar.specs.Grammar as grammar
 use Rattle.ats_proof.specs.Parts.{counted, spelled}
 use Rattle.ats_proof.specs.Value.{Documents, ShownTerm, TermsSection, digest_fields, doc_fields, kind_of_slot, section_fields, slot_fields, term_fields}
-use Rattle.ats_honest.specs.Order.{AreInOrder, ComesIn}
+use Rattle.ats_honest.specs.Inner.Order.{AreInOrder, ComesIn}
 use Rattle.ats_honest.proofs.Coming.{AreDigests, AreGoodSlots, come_counted, come_digests, come_join, come_number, is_number, small_kind}
 
 -- ---- a terms section

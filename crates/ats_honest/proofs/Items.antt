@@ -18,8 +18,9 @@ use Rattle.ats_doctree.proofs.Public.{item_at-last, item_at-suc, length-terms_le
 use Rattle.ats_proof.specs.Value.{TermsSection}
 use Rattle.ats_proof.proofs.Public.{increasing-tail}
 use Rattle.ats_honest.specs.Documents.{IsHonestSection, IsTermSpot, shown_term}
-use Rattle.ats_honest.specs.Terms.{AreNeeded, HaveSpots, lower, slot_of}
-use Rattle.ats_honest.specs.Order.{ComesIn}
+use Rattle.ats_honest.specs.Terms.{AreNeeded, HaveSpots, slot_of}
+use Rattle.ats_honest.specs.Inner.Terms.{lower}
+use Rattle.ats_honest.specs.Inner.Order.{ComesIn}
 use Rattle.ats_honest.proofs.ComingDocuments.{AreGoodTerms, IsGoodSection, come_section}
 use Rattle.ats_honest.proofs.Elided.{dictionary_few}
 use Rattle.ats_honest.proofs.Ranges.{above_first, all_below, rising_slots, some_needed}

@@ -12,7 +12,7 @@ use Rattle.ats_doctree.specs.declared.doc_leaf.DocLeaf.{DocLeaf}
 use Rattle.ats_commit.specs.Trees.{documents_leaf, documents_of}
 use Rattle.ats_proof.specs.Value.{Documents, TermsSection}
 use Rattle.ats_honest.specs.Documents.{AreHonestSections, document_leaf}
-use Rattle.ats_honest.specs.Order.{AreInOrder, ComesIn}
+use Rattle.ats_honest.specs.Inner.Order.{AreInOrder, ComesIn}
 use Rattle.ats_honest.proofs.ComingDocuments.{IsGoodLeaf, come_documents}
 use Rattle.ats_honest.proofs.Elided.{documents_few}
 use Rattle.ats_honest.proofs.Sections.{section_each}

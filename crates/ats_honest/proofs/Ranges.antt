@@ -17,7 +17,8 @@ use Rattle.ats_dict.specs.Dictionary.{IsBelow, IsDictionary, term_at}
 use Rattle.ats_dict.specs.Found.{IsSpot}
 use Rattle.ats_dict.proofs.Public.{terms_rise}
 use Rattle.ats_proof.proofs.Public.{increasing-tail}
-use Rattle.ats_honest.specs.Terms.{AreSpots, AreNeeded, HaveSpots, has, lower, needs, place, shown_entry, slot_of}
+use Rattle.ats_honest.specs.Terms.{AreSpots, AreNeeded, HaveSpots, has, needs, place, shown_entry, slot_of}
+use Rattle.ats_honest.specs.Inner.Terms.{lower}
 use Rattle.ats_honest.proofs.Spots.{leaf_at, lower_within}
 use Rattle.ats_honest.proofs.Places.{place_grows}
 use Rattle.ats_bound.proofs.Public.{has_contained, contained_has}

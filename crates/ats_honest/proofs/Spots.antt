@@ -9,7 +9,8 @@ use Rattle.std.proofs.lemmas.List.{length-replicate}
 use Rattle.ats_dict.specs.Dictionary.{IsDictionary, entry_at, low, zero_root}
 use Rattle.ats_dict.proofs.Public.{entry_at-suc, entry_at-last}
 use Rattle.ats_dict.specs.Found.{IsSpot}
-use Rattle.ats_honest.specs.Terms.{AreSpots, HaveSpots, lower}
+use Rattle.ats_honest.specs.Terms.{AreSpots, HaveSpots}
+use Rattle.ats_honest.specs.Inner.Terms.{lower}
 
 -- one term more
 pub spots_more : (is : List ℕ → Spot → Type 0) (terms : List (List ℕ × ℕ)) (spots : List Spot) (spot : Spot) (i : ℕ) (d : List ℕ × ℕ) → i < length terms

@@ -10,7 +10,7 @@ use Rattle.ats_commit.specs.Archive.{Archive}
 use Rattle.ats_commit.specs.Trees.{dictionary_of}
 use Rattle.ats_proof.specs.Value.{kind_of_slot, present_in}
 use Rattle.ats_honest.specs.Terms.{AreSpots, slot_of}
-use Rattle.ats_honest.specs.Present.{standing}
+use Rattle.ats_honest.specs.Inner.Present.{standing}
 use Rattle.ats_honest.specs.Lanes.{present}
 use Rattle.ats_honest.proofs.Present.{absent_term, present_term}
 

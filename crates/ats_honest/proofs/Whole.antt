@@ -28,7 +28,7 @@ use Rattle.ats_grammar.specs.Front.{Come}
 use Rattle.ats_grammar.specs.Grammar as grammar
 use Rattle.ats_proof.specs.declared.record.Algorithm.{Algorithm}
 use Rattle.ats_proof.specs.Value.{Documents, Proof, AreDocumentsOf, fields_of, present_in}
-use Rattle.ats_honest.specs.Order.{AreInOrder}
+use Rattle.ats_honest.specs.Inner.Order.{AreInOrder}
 use Rattle.ats_honest.specs.Terms.{AreSpots, AreNeeded, shown_entry, slot_of}
 use Rattle.ats_honest.specs.Documents.{HasDocuments}
 use Rattle.ats_honest.specs.Lanes.{lane_of, lanes_of, present}

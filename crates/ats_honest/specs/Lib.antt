@@ -1,6 +1,5 @@
 pub mod Terms
-pub mod Present
 pub mod Lanes
 pub mod Documents
 pub mod Honest
-pub mod Order
+pub mod Inner

@@ -26,11 +26,6 @@ abbrev pub needs : Spot → List ℕ
 needs (At p) = p ∷ []
 needs (Between p) = p ∷ (p + 1) ∷ []
 
--- the position of its leaf, or of the lower neighbour
-abbrev pub lower : Spot → ℕ
-lower (At p) = p
-lower (Between p) = p
-
 -- whether a number is in the list
 abbrev pub has : ℕ → List ℕ → Bool
 has n numbers = list_any (λ m. m == n) numbers

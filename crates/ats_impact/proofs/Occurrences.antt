@@ -10,7 +10,8 @@ use Rattle.std.proofs.lemmas.List.Sums.{sum_by-cons, count_by-le-length}
 use Rattle.ats_terms.specs.Terms.{occurrences}
 use Rattle.ats_terms.specs.Query.{Rises}
 use Rattle.ats_terms.proofs.Public.{rises_apart}
-use Rattle.ats_impact.specs.Score.{count, counts, frequency}
+use Rattle.ats_impact.specs.Score.{count, frequency}
+use Rattle.ats_impact.specs.Inner.Score.{counts}
 
 no : {P : Type 0} → (r : Bool) → Decides r P → ¬ P → r ≡ false
 no true decides not_so = absurd (not_so (decides.0 refl))

@@ -5,7 +5,8 @@ ghost use Rattle.std.specs.List.{All};
 ghost use Rattle.std.specs.Str.{bytes_eq};
 ghost use Rattle.ats_terms.specs.Terms.{terms, occurrences};
 ghost use Rattle.ats_terms.specs.Query.{IsQuery};
-ghost use Rattle.ats_impact.specs.Score.{counts, coefficient, part, score, total_terms};
+ghost use Rattle.ats_impact.specs.Score.{coefficient, part, score, total_terms};
+ghost use Rattle.ats_impact.specs.Inner.Score.{counts};
 
 use crate::collection::{Collection, Document};
 use crate::memory::OutOfMemory;

@@ -7,7 +7,8 @@ use Rattle.std.proofs.lemmas.Bool.{cond-true, cond-false, cases_Bool}
 use Rattle.std.proofs.lemmas.List.Elements.{All-head}
 use Rattle.ats_commit.specs.Archive.{Archive}
 use Rattle.ats_commit.specs.Own.{AreTexts, IsHeaderOf}
-use Rattle.ats_commit.specs.Root.{header_string, own_header_string, root_of}
+use Rattle.ats_commit.specs.Root.{header_string, root_of}
+use Rattle.ats_commit.specs.Inner.Root.{own_header_string}
 use Rattle.ats_commit.proofs.Public.{known-by-numbers, own_numbers}
 use Rattle.ats_tree.specs.Differences.{Hashed, moved, Difference, first_difference}
 use Rattle.ats_tree.specs.Nodes.{Node, NodeNumbers, numbers_of}

@@ -5,7 +5,7 @@ use Rattle.std.specs.List.{common_prefix_len}
 use Rattle.std.proofs.lemmas.List.{append-nil, append_cancel_left, drop-drop}
 use Rattle.std.proofs.lemmas.List.Sums.{common_prefix_len-le}
 use borrow.Author.Tests.{ltb-true, ltb-false}
-use Rattle.ats_index.specs.Comparing.{IsCompared}
+use Rattle.ats_index.specs.Inner.Comparing.{IsCompared}
 use Rattle.ats_index.specs.LoadFaults.{IsDifference}
 use Rattle.ats_index.proofs.CommonPrefix.{shared, whole, all_common, more_same, more_other}
 

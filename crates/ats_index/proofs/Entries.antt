@@ -15,7 +15,7 @@ use Rattle.ats_dict.specs.Entry.{DictEntry}
 use Rattle.ats_lists.specs.declared.format.Format.{Format}
 use Rattle.ats_lists.specs.declared.list_keeping.ListDigests.{ListDigests}
 use Rattle.ats_commit.specs.Trees.{dict_entry}
-use Rattle.ats_index.specs.Kept.{all_list_digests}
+use Rattle.ats_index.specs.Inner.Kept.{all_list_digests}
 
 -- what is above all terms is above the last one's
 above_last : (entries : List DictEntry) (term : List ℕ) → ((k : ℕ) (d : DictEntry) → k < length entries → IsBelow (get_or entries k d).term term)

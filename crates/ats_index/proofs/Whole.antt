@@ -8,8 +8,9 @@ use Rattle.ats_doctree.specs.Impacts.{doc_terms, text_terms}
 use Rattle.ats_doctree.specs.Sentinels.{terms_leaves}
 use Rattle.ats_doctree.specs.declared.doc_leaf.DocLeaf.{DocLeaf}
 use Rattle.ats_commit.specs.Trees.{documents_of, leaf_of, leaf_of_terms, documents_leaf}
-use Rattle.ats_index.specs.Kept.{all_term_digests}
-use Rattle.ats_index.specs.Parts.{all_counts, all_leaves, all_terms}
+use Rattle.ats_index.specs.Inner.Kept.{all_term_digests}
+use Rattle.ats_index.specs.Parts.{all_leaves}
+use Rattle.ats_index.specs.Inner.Parts.{all_counts, all_terms}
 
 leaves_map : (H : List ℕ → List ℕ) (texts some : List (List ℕ))
     → map leaf_of (map (λ text. leaf_of_terms H (text_terms texts text)) some) ≡ map (λ text. documents_leaf H (terms_leaves (text_terms texts text))) some

@@ -1,50 +1,15 @@
 -- The parts of an archive's index, under a hash function H.
-use Rattle.std.specs.Prelude.{◌≡◌, ℕ, List, map}
-use Rattle.ats_terms.specs.Terms.{terms}
-use Rattle.ats_terms.specs.Query.{counted}
-use Rattle.ats_postings.specs.Lists.{lists_of}
-use Rattle.ats_postings.specs.declared.entry.Entry.{Entry}
+use Rattle.std.specs.Prelude.{ℕ, List, map}
 use Rattle.ats_lists.specs.declared.format.Format.{Format}
-use Rattle.ats_dict.specs.Entry.{DictEntry}
-use Rattle.ats_dict.specs.declared.header.Header.{Header}
 use Rattle.ats_doctree.specs.Impacts.{text_terms}
 use Rattle.ats_doctree.specs.declared.doc_leaf.DocLeaf.{DocLeaf}
 use Rattle.ats_commit.specs.Archive.{Archive}
-use Rattle.ats_commit.specs.Trees.{dictionary_of, leaf_of_terms}
-use Rattle.ats_commit.specs.Root.{header_parts, root_of}
-use Rattle.ats_commit.specs.Own.{AreTexts}
+use Rattle.ats_commit.specs.Trees.{leaf_of_terms}
 
 -- the archive of these texts, with its lists in this format
 abbrev pub archive_in : Format → List (List ℕ) → Archive
 archive_in format texts = record { texts = texts; format = format }
 
--- the counted terms of each document, in the order of documents
-abbrev pub all_counts : List (List ℕ) → List (List (List ℕ × ℕ))
-all_counts texts = map (λ text. counted (terms text)) texts
-
--- the terms of each document with their impacts, in the order of documents
-abbrev pub all_terms : List (List ℕ) → List (List (List ℕ × ℕ))
-all_terms texts = map (text_terms texts) texts
-
 -- the documents leaf of each document
 abbrev pub all_leaves : (List ℕ → List ℕ) → List (List ℕ) → List DocLeaf
 all_leaves H texts = map (λ text. leaf_of_terms H (text_terms texts text)) texts
-
--- the texts are within the limits, and each part is the archive's
-pub record IsIndexOf
-    (H : List ℕ → List ℕ)
-    (archive : Archive)
-    (lists : List (List ℕ × List Entry))
-    (dictionary : List DictEntry)
-    (terms : List (List (List ℕ × ℕ)))
-    (leaves : List DocLeaf)
-    (header : Header)
-    (root : List ℕ)
-    : Type 0 where
-  pub texts_within : AreTexts archive.texts
-  pub own_lists : lists ≡ lists_of archive.texts
-  pub own_dictionary : dictionary ≡ dictionary_of H archive
-  pub own_terms : terms ≡ all_terms archive.texts
-  pub own_leaves : leaves ≡ all_leaves H archive.texts
-  pub own_header : header ≡ header_parts H archive
-  pub own_root : root ≡ root_of H archive

@@ -2,7 +2,7 @@
 
 ghost use Rattle.std.specs.Prelude.{◌≡◌, ◌≤◌, ◌++◌, [], ℕ, List, length, nat_eq, OnOk, MatchOption};
 ghost use Rattle.std.specs.List.{common_prefix_len};
-ghost use Rattle.ats_index.specs.Comparing.{IsCompared};
+ghost use Rattle.ats_index.specs.Inner.Comparing.{IsCompared};
 ghost use Rattle.ats_index.specs.LoadFaults.{IsDifference};
 
 use crate::memory::OutOfMemory;

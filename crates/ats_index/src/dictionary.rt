@@ -5,7 +5,7 @@ ghost use Rattle.ats_tree.specs.Kept.{kept_digests};
 ghost use Rattle.ats_dict.specs.Dictionary.{dict_leaves};
 ghost use Rattle.ats_lists.specs.KeptList.{kept_list};
 ghost use Rattle.ats_commit.specs.Trees.{dict_entry};
-ghost use Rattle.ats_index.specs.Kept.{all_list_digests};
+ghost use Rattle.ats_index.specs.Inner.Kept.{all_list_digests};
 
 use crate::memory::OutOfMemory;
 use ats_dict::Dictionary;

@@ -4,8 +4,9 @@ ghost use Rattle.std.specs.Prelude.{◌≡◌, ◌≤◌, length, map, IfOk};
 ghost use Rattle.ats_tree.specs.Kept.{kept_digests};
 ghost use Rattle.ats_doctree.specs.Sentinels.{terms_leaves};
 ghost use Rattle.ats_commit.specs.Trees.{documents_of, leaf_of_terms};
-ghost use Rattle.ats_index.specs.Kept.{all_term_digests};
-ghost use Rattle.ats_index.specs.Parts.{all_leaves, all_terms};
+ghost use Rattle.ats_index.specs.Inner.Kept.{all_term_digests};
+ghost use Rattle.ats_index.specs.Parts.{all_leaves};
+ghost use Rattle.ats_index.specs.Inner.Parts.{all_terms};
 
 use crate::memory::OutOfMemory;
 use ats_commit::DocLeaves;

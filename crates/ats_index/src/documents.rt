@@ -9,8 +9,8 @@ ghost use Rattle.ats_postings.specs.Postings.{text_of};
 ghost use Rattle.ats_tree.specs.Kept.{kept_digests};
 ghost use Rattle.ats_doctree.specs.Impacts.{doc_terms};
 ghost use Rattle.ats_doctree.specs.Sentinels.{terms_leaves};
-ghost use Rattle.ats_index.specs.Kept.{all_list_digests, all_term_digests};
-ghost use Rattle.ats_index.specs.Parts.{all_terms};
+ghost use Rattle.ats_index.specs.Inner.Kept.{all_list_digests, all_term_digests};
+ghost use Rattle.ats_index.specs.Inner.Parts.{all_terms};
 
 use crate::dictionary::digests_of_lists;
 use crate::memory::OutOfMemory;

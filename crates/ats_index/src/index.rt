@@ -16,8 +16,9 @@ ghost use Rattle.ats_commit.specs.Archive.{archive_of};
 ghost use Rattle.ats_commit.specs.Trees.{dictionary_of, documents_of, leaf_of_terms};
 ghost use Rattle.ats_commit.specs.Root.{header_parts, root_of};
 ghost use Rattle.ats_commit.specs.Own.{AreTexts};
-ghost use Rattle.ats_index.specs.Parts.{all_leaves, all_terms, archive_in};
-ghost use Rattle.ats_index.specs.Kept.{all_list_digests, all_term_digests};
+ghost use Rattle.ats_index.specs.Parts.{all_leaves, archive_in};
+ghost use Rattle.ats_index.specs.Inner.Parts.{all_terms};
+ghost use Rattle.ats_index.specs.Inner.Kept.{all_list_digests, all_term_digests};
 ghost use Rattle.ats_index.specs.Spelling.{IsSpelling, index_bytes};
 ghost use Rattle.ats_index.specs.LoadFaults.{IsDifference};
 
@@ -66,8 +67,9 @@ pub struct Index<H: HashKind> {
 
 impl<H: HashKind> Model for Index<H> {
     ghost use Rattle.ats_commit.specs.Archive.{Archive};
-    ghost use Rattle.ats_index.specs.Parts.{IsIndexOf, archive_in};
-    ghost use Rattle.ats_index.specs.Kept.{AreNodesOf};
+    ghost use Rattle.ats_index.specs.Parts.{archive_in};
+    ghost use Rattle.ats_index.specs.Inner.Parts.{IsIndexOf};
+    ghost use Rattle.ats_index.specs.Inner.Kept.{AreNodesOf};
 
     ghost Value = { Archive };
 

@@ -7,8 +7,9 @@ ghost use Rattle.ats_lists.specs.KeptList.{kept_list};
 ghost use Rattle.ats_dict.specs.Dictionary.{dict_leaves};
 ghost use Rattle.ats_doctree.specs.Sentinels.{terms_leaves};
 ghost use Rattle.ats_commit.specs.Trees.{dict_entry, documents_of};
-ghost use Rattle.ats_index.specs.Kept.{all_list_digests, all_term_digests};
-ghost use Rattle.ats_index.specs.Parts.{all_leaves, all_terms};
+ghost use Rattle.ats_index.specs.Inner.Kept.{all_list_digests, all_term_digests};
+ghost use Rattle.ats_index.specs.Parts.{all_leaves};
+ghost use Rattle.ats_index.specs.Inner.Parts.{all_terms};
 
 use crate::dictionary::{DictionaryTree, dictionary_of};
 use crate::doc_leaves::{DocumentsTree, leaves_of_documents};

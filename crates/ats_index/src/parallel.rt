@@ -14,8 +14,9 @@ ghost use Rattle.ats_lists.specs.KeptList.{kept_list};
 ghost use Rattle.ats_postings.specs.Lists.{lists_of};
 ghost use Rattle.ats_doctree.specs.Impacts.{doc_terms};
 ghost use Rattle.ats_doctree.specs.Sentinels.{terms_leaves};
-ghost use Rattle.ats_index.specs.Kept.{all_list_digests, all_term_digests};
-ghost use Rattle.ats_index.specs.Parts.{all_counts, all_leaves, all_terms};
+ghost use Rattle.ats_index.specs.Inner.Kept.{all_list_digests, all_term_digests};
+ghost use Rattle.ats_index.specs.Parts.{all_leaves};
+ghost use Rattle.ats_index.specs.Inner.Parts.{all_counts, all_terms};
 
 use crate::dictionary::DictionaryTree;
 use crate::doc_leaves::DocumentsTree;

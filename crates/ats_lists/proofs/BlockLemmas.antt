@@ -12,7 +12,7 @@ use Rattle.ats_tree.specs.Rebuild.{need, inner_nodes}
 use Rattle.ats_tree.proofs.Public.{length-places, full-need, places-from, from-from}
 use Rattle.ats_lists.specs.Blocks.{blocks_in, items_in}
 use Rattle.ats_lists.specs.ChainBound.{chain_inner_nodes}
-use Rattle.ats_lists.specs.BlockRoots.{AreBlockRoots}
+use Rattle.ats_lists.specs.Inner.BlockRoots.{AreBlockRoots}
 use Rattle.ats_lists.specs.ChainPrefix.{block_tree, block_need, block_root}
 use Rattle.ats_lists.proofs.Fronts.{front-places, front-length, front-gone, range-more}
 

@@ -22,7 +22,8 @@ use Rattle.ats_lists.specs.Blocks.{blocks_in, items_in, blocks_from}
 use Rattle.ats_lists.specs.Chain.{link, chain_digest}
 use Rattle.ats_lists.specs.ChainPrefix.{block_tree, block_need, block_root, next_digest, tree_strings, block_strings, chain_strings}
 use Rattle.ats_lists.proofs.BlockLemmas.{IsShownFront, taken, taken-none, taken-all, taken-next, block-left}
-use Rattle.ats_lists.specs.ChainClash.{list_difference_of, numbers_in, ours_in, tree_collision, IsFirstInTrees, link_at}
+use Rattle.ats_lists.specs.ChainClash.{list_difference_of}
+use Rattle.ats_lists.specs.Inner.ChainClash.{numbers_in, ours_in, tree_collision, IsFirstInTrees, link_at}
 
 -- ---- one block's tree
 

@@ -6,7 +6,7 @@ use Rattle.std.proofs.lemmas.List.FromFn.{length-map-range_with_len}
 use Rattle.std.proofs.lemmas.Option.{get_or_from_slice_get, slice_get_within}
 use Rattle.ats_tree.specs.Shown.{Shown}
 use Rattle.ats_lists.specs.Blocks.{blocks_in}
-use Rattle.ats_lists.specs.BlockRoots.{AreBlockRoots}
+use Rattle.ats_lists.specs.Inner.BlockRoots.{AreBlockRoots}
 use Rattle.ats_lists.specs.Chain.{no_block, chain_digest}
 use Rattle.ats_lists.specs.ChainPrefix.{block_need, block_root, has_next, chain_need, next_digest, shown_from, chain_rebuilt}
 

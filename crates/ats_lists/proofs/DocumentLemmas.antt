@@ -17,7 +17,7 @@ use Rattle.ats_impact.specs.Numbers.{impact}
 use Rattle.ats_impact.specs.Score.{total_terms}
 use Rattle.ats_impact.proofs.Public.{occurs_few}
 use Rattle.ats_postings.specs.Postings.{text_of, count_in, posting, postings_of_run}
-use Rattle.ats_lists.specs.Gathered.{Pairs, entries_for, HasEntries, HasRun}
+use Rattle.ats_lists.specs.Inner.Gathered.{Pairs, entries_for, HasEntries, HasRun}
 use Rattle.ats_postings.specs.declared.entry.Entry.{Entry}
 use Rattle.ats_postings.proofs.Public.{run_none, run_more, run_joined}
 

@@ -7,7 +7,8 @@ use Rattle.std.proofs.lemmas.Bool.{cond-true, cond-false, cases_lt, eq-eqb, ne_e
 use Rattle.std.proofs.lemmas.List.{length-map}
 use Rattle.std.proofs.lemmas.List.FromFn.{get_or-range_with_len, length-range_with_len}
 use Rattle.ats_tree.specs.Shown.{Shown, positions_of, shown_at, places}
-use Rattle.ats_tree.specs.Part.{RisesFrom, RisesWithin, shown_from}
+use Rattle.ats_tree.specs.Part.{RisesFrom, shown_from}
+use Rattle.ats_tree.specs.Inner.Part.{RisesWithin}
 use Rattle.ats_tree.proofs.Public.{IsFront, front-nil}
 
 pub front-length : (a n : ℕ) (shown : List Shown) → positions_of shown ≡ range_with_len a n → length shown ≡ n

@@ -1,8 +1,7 @@
 -- The digests of a list in blocks, as they stand in one run, and as they are seen.
 use Rattle.std.proofs.Common.{◌≡◌, ℕ, zero, suc, ◌+◌, ◌-◌, ◌*◌, ◌/◌, ◌%◌, ◌^◌, ◌<◌, ◌≤◌, List, [], ◌∷◌, ◌++◌, length, map, take, drop, get_or, min, if◌then◌else◌, nat_lt, refl, sym, ◌∙◌, ap, ap₂, arith, inl, inr, Result, Ok, Err, OnErr, Some, None, Option, IsTrue, true, false, Bool, not, nat_eq}
-use Rattle.std.specs.List.{range_with_len}
+use Rattle.std.specs.List.{range_with_len, All, slice_get}
 use Rattle.std.proofs.lemmas.Bool.{cases_lt, cases_Bool, cond-true, cond-false, le-ltb, lt-ltb}
-use Rattle.std.specs.List.{All, slice_get}
 use Rattle.std.specs.Option.{is_none, is_some}
 use Rattle.std.proofs.lemmas.List.{append-nil, drop-drop, drop-take, get_or-take, get_or-drop, take_all, take_at, drop_at, drop_all, length-take, length-drop}
 use Rattle.std.proofs.lemmas.List.Elements.{All-cons}
@@ -15,7 +14,8 @@ use Rattle.ats_tree.specs.Paths.{path_of}
 use Rattle.ats_tree.proofs.Public.{length-kept, sized-kept, string-none}
 use Rattle.ats_lists.specs.Blocks.{blocks_in, items_in, block, blocks_from}
 use Rattle.ats_lists.specs.Chain.{link, chain_from, chain_link, chain_string}
-use Rattle.ats_lists.specs.KeptChain.{ChainDigests, kept_chain, digests_in, chain_in, IsChainRun}
+use Rattle.ats_lists.specs.KeptChain.{ChainDigests, kept_chain}
+use Rattle.ats_lists.specs.Inner.KeptChain.{digests_in, chain_in, IsChainRun}
 use Rattle.ats_lists.proofs.ChainBinding.{chain_from-step}
 
 -- functions with equal values over some numbers make equal lists

@@ -14,7 +14,7 @@ use Rattle.std.proofs.lemmas.List.Folds.{Any-from_list_any, list_any_at}
 use Rattle.std.proofs.lemmas.Slice.Eq.{bytes_eq-Decides}
 use Rattle.ats_terms.specs.Terms.{IsTerm}
 use Rattle.ats_terms.specs.Query.{byte_cmp}
-use Rattle.ats_lists.specs.Gathered.{Pairs, entries_for, entries_under, term_of, pairs_of, renumbered, AreNewNumbers, IsLogOf}
+use Rattle.ats_lists.specs.Inner.Gathered.{Pairs, entries_for, entries_under, term_of, pairs_of, renumbered, AreNewNumbers, IsLogOf}
 use Rattle.ats_postings.specs.declared.entry.Entry.{Entry}
 use Rattle.ats_lists.specs.declared.gathering.Logged.{Logged}
 use Rattle.ats_postings.proofs.Public.{one_place, if_some, lookup_made}

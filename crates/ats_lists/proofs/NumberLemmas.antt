@@ -17,7 +17,7 @@ use Rattle.std.proofs.lemmas.Slice.Eq.{bytes_eq-Decides}
 use Rattle.ats_terms.specs.Front.{front, AreBytes}
 use Rattle.ats_terms.specs.Query.{byte_cmp}
 use Rattle.ats_terms.proofs.Public.{front_tells}
-use Rattle.ats_lists.specs.Gathered.{term_of, AreNewNumbers, AreNumbered, AreSlotsOf, IsSlotOf}
+use Rattle.ats_lists.specs.Inner.Gathered.{term_of, AreNewNumbers, AreNumbered, AreSlotsOf, IsSlotOf}
 use Rattle.ats_lists.specs.declared.numbering.Slot.{Slot}
 use Rattle.ats_lists.proofs.LogLemmas.{Grows, terms_kept, used_before}
 use Rattle.ats_postings.proofs.Public.{less_by, one_place}

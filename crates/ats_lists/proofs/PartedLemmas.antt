@@ -7,8 +7,9 @@ use Rattle.std.specs.Map.{lookup, keys_of}
 use Rattle.ats_terms.specs.Terms.{IsTerm}
 use Rattle.ats_terms.specs.Query.{byte_cmp}
 use Rattle.ats_postings.specs.Postings.{postings}
-use Rattle.ats_postings.specs.Lists.{by_impact, vocabulary, lists_of, AreGathered}
-use Rattle.ats_lists.specs.Gathered.{Pairs, entries_for, entries_under, term_of, pairs_of, HasRun, IsLogOf}
+use Rattle.ats_postings.specs.Lists.{by_impact, vocabulary, lists_of}
+use Rattle.ats_postings.specs.Inner.Lists.{AreGathered}
+use Rattle.ats_lists.specs.Inner.Gathered.{Pairs, entries_for, entries_under, term_of, pairs_of, HasRun, IsLogOf}
 use Rattle.ats_postings.specs.declared.entry.Entry.{Entry}
 use Rattle.ats_lists.specs.declared.gathering.Logged.{Logged}
 use Rattle.ats_postings.proofs.Public.{run_of_all, if_some, keys_made, all_gathered, made_lists, terms_are}

@@ -1,12 +1,11 @@
 pub mod Leaf
-pub mod Gathered
 pub mod Blocks
 pub mod Chain
 pub mod ChainPrefix
-pub mod BlockRoots
 pub mod ChainBound
 pub mod ChainClash
 pub mod Formats
 pub mod FormatNumber
 pub mod KeptChain
 pub mod KeptList
+pub mod Inner

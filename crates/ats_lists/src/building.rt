@@ -30,7 +30,7 @@ pub struct ListsBuilder<'a> {
 
 impl<'a> Model for ListsBuilder<'a> {
     ghost use Rattle.std.specs.Prelude.{◌≤◌, List, ℕ};
-    ghost use Rattle.ats_lists.specs.Gathered.{HasRun};
+    ghost use Rattle.ats_lists.specs.Inner.Gathered.{HasRun};
 
     ghost Value = { List (List ℕ) × ℕ × ℕ };
 

@@ -10,8 +10,9 @@ ghost use Rattle.ats_tree.specs.Shown.{places, positions_of};
 ghost use Rattle.ats_tree.specs.Strings.{strings};
 ghost use Rattle.ats_tree.specs.Tree.{tree_of};
 ghost use Rattle.ats_lists.specs.Blocks.{blocks_in};
-ghost use Rattle.ats_lists.specs.BlockRoots.{AreBlockRoots};
-ghost use Rattle.ats_lists.specs.ChainClash.{list_difference_of, numbers_in, IsFirstInTrees, link_at};
+ghost use Rattle.ats_lists.specs.Inner.BlockRoots.{AreBlockRoots};
+ghost use Rattle.ats_lists.specs.ChainClash.{list_difference_of};
+ghost use Rattle.ats_lists.specs.Inner.ChainClash.{numbers_in, IsFirstInTrees, link_at};
 ghost use Rattle.ats_lists.specs.ChainPrefix.{block_need, chain_rebuilt, chain_strings};
 
 use crate::chain_rebuilding::{BLOCK, BLOCKS, pass_next};
@@ -30,7 +31,7 @@ struct OwnBlock<'o, O> {
 }
 
 impl<O: OwnList> OwnNodes<HashedString> for OwnBlock<'_, O> {
-    ghost use Rattle.ats_lists.specs.ChainClash.{ours_in};
+    ghost use Rattle.ats_lists.specs.Inner.ChainClash.{ours_in};
 
     ghost ours = { λ b node. ours_in (O.ours b.own.now) b.block node };
 

@@ -9,7 +9,8 @@ ghost use Rattle.ats_tree.specs.Strings.{string_at};
 ghost use Rattle.ats_tree.specs.Tree.{mth, tree_of};
 ghost use Rattle.ats_lists.specs.Blocks.{blocks_in, items_in, block};
 ghost use Rattle.ats_lists.specs.Chain.{link, no_block, chain, chain_from, chain_string, chain_elided};
-ghost use Rattle.ats_lists.specs.KeptChain.{ChainDigests, kept_chain, digests_in, chain_in, IsChainRun};
+ghost use Rattle.ats_lists.specs.KeptChain.{ChainDigests, kept_chain};
+ghost use Rattle.ats_lists.specs.Inner.KeptChain.{digests_in, chain_in, IsChainRun};
 ghost use Rattle.ats_lists.specs.Leaf.{leaf_bytes};
 
 use crate::chain_rebuilding::BLOCK;

@@ -4,7 +4,7 @@ ghost use Rattle.std.specs.Prelude.{◌≡◌, ℕ, ◌+◌, ◌*◌, ◌^◌, �
 ghost use Rattle.std.specs.List.{range_with_len};
 ghost use Rattle.ats_tree.specs.Shown.{positions_of};
 ghost use Rattle.ats_lists.specs.Blocks.{blocks_in};
-ghost use Rattle.ats_lists.specs.BlockRoots.{AreBlockRoots};
+ghost use Rattle.ats_lists.specs.Inner.BlockRoots.{AreBlockRoots};
 ghost use Rattle.ats_lists.specs.Chain.{chain, chain_digest, no_block};
 ghost use Rattle.ats_lists.specs.ChainPrefix.{block_need, chain_rebuilt};
 ghost use Rattle.ats_lists.specs.ChainBound.{IsChainBoundTo, chain_inner_nodes};

@@ -6,8 +6,9 @@ ghost use Rattle.std.specs.List.Sorted.{IsStrictlySortedBy};
 ghost use Rattle.ats_terms.specs.Terms.{terms};
 ghost use Rattle.ats_terms.specs.Query.{byte_cmp, counted};
 ghost use Rattle.ats_postings.specs.Postings.{text_of};
-ghost use Rattle.ats_postings.specs.Lists.{AreGathered, by_impact, lists_of, AreLists};
-ghost use Rattle.ats_lists.specs.Gathered.{entries_under, pairs_of, renumbered, term_of, AreNewNumbers, HasRun, IsLogOf};
+ghost use Rattle.ats_postings.specs.Lists.{by_impact, lists_of, AreLists};
+ghost use Rattle.ats_postings.specs.Inner.Lists.{AreGathered};
+ghost use Rattle.ats_lists.specs.Inner.Gathered.{entries_under, pairs_of, renumbered, term_of, AreNewNumbers, HasRun, IsLogOf};
 
 use ats_postings::Entry;
 use crate::key::Key;
@@ -35,7 +36,7 @@ pub(crate) struct Gathered {
 }
 
 impl Model for Gathered {
-    ghost use Rattle.ats_lists.specs.Gathered.{pairs_of, IsLogOf, Pairs};
+    ghost use Rattle.ats_lists.specs.Inner.Gathered.{pairs_of, IsLogOf, Pairs};
 
     ghost Value = { Pairs };
 

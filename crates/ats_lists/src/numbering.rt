@@ -6,7 +6,7 @@ ghost use Rattle.std.specs.List.Sorted.{IsSortedByKey, IsStrictlySortedBy};
 ghost use Rattle.std.specs.Ordering.{is_lt};
 ghost use Rattle.ats_terms.specs.Query.{byte_cmp};
 ghost use Rattle.ats_terms.specs.Front.{front as front_of, AreBytes};
-ghost use Rattle.ats_lists.specs.Gathered.{term_of, AreNewNumbers, AreNumbered, AreSlotsOf, IsSlotOf};
+ghost use Rattle.ats_lists.specs.Inner.Gathered.{term_of, AreNewNumbers, AreNumbered, AreSlotsOf, IsSlotOf};
 
 use crate::key::Key;
 use crate::memory::OutOfMemory;
@@ -46,7 +46,7 @@ pub(crate) struct Numbering {
 
 impl Model for Numbering {
     ghost use Rattle.std.specs.Prelude.{List, ℕ};
-    ghost use Rattle.ats_lists.specs.Gathered.{AreSlotsOf};
+    ghost use Rattle.ats_lists.specs.Inner.Gathered.{AreSlotsOf};
 
     ghost Value = { List (List ℕ) };
 

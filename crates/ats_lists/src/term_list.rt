@@ -1,7 +1,8 @@
 //! A term with its entries.
 
 ghost use Rattle.std.specs.Prelude.{◌≡◌, ◌++◌, ◌∷◌, [], IfOk, OnOk};
-ghost use Rattle.ats_postings.specs.Lists.{AreGathered, by_impact};
+ghost use Rattle.ats_postings.specs.Lists.{by_impact};
+ghost use Rattle.ats_postings.specs.Inner.Lists.{AreGathered};
 
 use ats_postings::Entry;
 use crate::memory::OutOfMemory;

@@ -4,7 +4,7 @@ use Rattle.ats_commit.specs.Archive.{Archive}
 use Rattle.ats_inclusion.proofs.Public.{one_join}
 use Rattle.ats_growth.specs.Honest.{honest}
 use Rattle.ats_consistency.proofs.Public.{one_join as one_growth_join}
-use Rattle.ats_plan.specs.Sound.{IsExact}
+use Rattle.ats_plan.specs.Inner.Sound.{IsExact}
 use Rattle.ats_console.specs.Words.{RankWords, BuildWords, RootWords, ProveWords, MigrateWords, GiveWords, ProveBothWords, GrowWords}
 use Rattle.ats_console.proofs.Public.{Sound, ends, stores, tries, makes, not_input, query_sound, ranking_sound, collection_sound, index_sound, one_made, length_exact}
 use Rattle.ats_makers.specs.Commands.Rank.{rank_plan}

@@ -3,7 +3,8 @@
 ghost use Rattle.std.specs.Prelude.{◌≡◌, IfOk, IfErr};
 ghost use Rattle.ats_plan.specs.Plan.{ComesToShelf};
 ghost use Rattle.ats_plan.specs.Runs.{IsDone, IsStopped};
-ghost use Rattle.ats_console.specs.Making.{IsMade, MakingStop};
+ghost use Rattle.ats_console.specs.Making.{IsMade};
+ghost use Rattle.ats_console.specs.Inner.Making.{MakingStop};
 ghost use Rattle.ats_makers.specs.Commands.Prove.{prove_plan};
 ghost use Rattle.ats_console.specs.declared.stops.Stop.TheVariants.{Shelf as AtShelf, Memory};
 

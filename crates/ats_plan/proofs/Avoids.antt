@@ -1,7 +1,7 @@
 -- A plan that avoids a stop does not stop so.
 use Rattle.std.proofs.Common.{◌≢◌, inl, inr}
 use Rattle.ats_base.specs.Outside.{ShelfTold}
-use Rattle.ats_plan.specs.Avoids.{Avoids}
+use Rattle.ats_plan.specs.Inner.Avoids.{Avoids}
 use Rattle.ats_plan.specs.Files.{Files}
 use Rattle.ats_plan.specs.Plan.{Plan, Finishes, Stores, Fails, Tries, Gets, Makes, Reads, Refuses}
 use Rattle.ats_plan.specs.Runs.{Stops}

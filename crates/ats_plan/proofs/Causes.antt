@@ -3,7 +3,7 @@ use Rattle.std.proofs.Common.{◌≡◌, ℕ, List, inl, inr, refl, subst}
 use Rattle.ats_base.specs.Outside.{ShelfTold, Rose}
 use Rattle.ats_plan.specs.Files.{Files}
 use Rattle.ats_plan.specs.Plan.{Plan, Finishes, Stores, Fails, Tries, Gets, Makes, Reads, Refuses, Passes, ComesToShelf}
-use Rattle.ats_plan.specs.Sound.{IsSound}
+use Rattle.ats_plan.specs.Inner.Sound.{IsSound}
 use Rattle.ats_plan.specs.Runs.{IsUnread, Missing, Failed, NoMemory, Does, Stops}
 
 -- Why it stopped: its files refuse the plan, memory ran out, or the shelf, to which it came, failed.

@@ -2,7 +2,7 @@
 use Rattle.std.proofs.Common.{◌≡◌, ◌∙◌, ℕ, List, inl, inr, sym, subst}
 use Rattle.ats_plan.specs.Files.{Files, IsTold}
 use Rattle.ats_plan.specs.Plan.{Plan, Finishes, Stores, Fails, Tries, Gets, Makes, Reads, Refuses, Passes, ComesToShelf, IsKnown}
-use Rattle.ats_plan.specs.Sound.{IsSound}
+use Rattle.ats_plan.specs.Inner.Sound.{IsSound}
 use Rattle.ats_plan.proofs.Files.{one_file, file_there, file_short, missing_short}
 
 module _ {F : Type 0} (files : Files) where

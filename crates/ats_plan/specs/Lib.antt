@@ -1,5 +1,4 @@
-pub mod Avoids
 pub mod Files
 pub mod Plan
 pub mod Runs
-pub mod Sound
+pub mod Inner

@@ -14,7 +14,8 @@ use Rattle.ats_terms.specs.Terms.{terms}
 use Rattle.ats_impact.specs.Score.{total_terms}
 use Rattle.ats_impact.proofs.Public.{impact_small, occurs_few}
 use Rattle.ats_postings.specs.Postings.{text_of, count_in, posting, postings_of_run, postings_of_first, postings}
-use Rattle.ats_postings.specs.Lists.{by_impact, list, entry_cmp, IsListOf, doc_cmp}
+use Rattle.ats_postings.specs.Lists.{by_impact, list, entry_cmp, IsListOf}
+use Rattle.ats_postings.specs.Inner.Lists.{doc_cmp}
 use Rattle.ats_postings.specs.declared.entry.Entry.{Entry}
 use Rattle.ats_postings.proofs.Rising.{rises_map, all_any, sorted_from_rises, sorted_permutation_is_one}
 use Rattle.ats_postings.proofs.Sorting.{entry_cmp_total, entry_cmp_exact, distinct_docs, by_impact_rises, by_impact_same}

@@ -13,7 +13,8 @@ use Rattle.std.proofs.lemmas.List.Kept.{IsStrictlySortedBy-filter}
 use Rattle.std.proofs.lemmas.List.Sorted.{IsPermutation-refl, IsPermutation-cons, IsPermutation-middle, IsPermutation-sym, IsPermutation-trans, IsPermutation-append_right}
 use Rattle.std.proofs.lemmas.Map.Keys.{IsDistinct-from_apart, Less-from_sorted}
 use Rattle.std.proofs.lemmas.Map.Lookups.{CmpEqualImpliesEq, exact_unsigned}
-use Rattle.ats_postings.specs.Lists.{by_impact, entry_cmp, doc_cmp, AreGathered}
+use Rattle.ats_postings.specs.Lists.{by_impact, entry_cmp}
+use Rattle.ats_postings.specs.Inner.Lists.{doc_cmp, AreGathered}
 use Rattle.ats_postings.specs.declared.entry.Entry.{Entry}
 use Rattle.ats_postings.proofs.Rising.{rises_append, rises_map, sorted_from_rises, sorted_permutation_is_one}
 

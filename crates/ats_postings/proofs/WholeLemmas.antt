@@ -20,7 +20,8 @@ use Rattle.ats_terms.specs.Terms.{IsTerm}
 use Rattle.ats_terms.specs.Query.{byte_cmp}
 use Rattle.ats_impact.specs.Score.{frequency, total_terms}
 use Rattle.ats_postings.specs.Postings.{postings}
-use Rattle.ats_postings.specs.Lists.{by_impact, list, entry_cmp, vocabulary, lists_of, IsList, AreLists, doc_cmp, AreGathered}
+use Rattle.ats_postings.specs.Lists.{by_impact, list, entry_cmp, vocabulary, lists_of, IsList, AreLists}
+use Rattle.ats_postings.specs.Inner.Lists.{doc_cmp, AreGathered}
 use Rattle.ats_postings.specs.declared.entry.Entry.{Entry}
 use Rattle.ats_postings.proofs.PostingLemmas.{postings_rise, postings_below, postings_few, postings_impacts, list_is_sorted, list_rises}
 use Rattle.ats_postings.proofs.VocabularyLemmas.{if_some, vocabulary_rises, vocabulary_few, vocabulary_has, entries_are, keys_made, postings_frequency}

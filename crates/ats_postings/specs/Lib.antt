@@ -1,2 +1,3 @@
 pub mod Postings
 pub mod Lists
+pub mod Inner

@@ -22,15 +22,6 @@ list texts term = by_impact 2200 (postings texts term)
 abbrev pub entry_cmp : Entry → Entry → Ordering
 entry_cmp a b = ordering_then (nat_cmp b.impact a.impact) (nat_cmp a.doc b.doc)
 
--- by document
-abbrev pub doc_cmp : Entry → Entry → Ordering
-doc_cmp a b = nat_cmp a.doc b.doc
-
--- entries in the order of documents, with possible impacts
-pub record AreGathered (entries : List Entry) : Type 0 where
-  pub rise : IsStrictlySortedBy doc_cmp entries
-  pub impacts : All (λ entry. (1 ≤ entry.impact) × (entry.impact ≤ 2200)) entries
-
 -- the entries are the postings of the term, by impact descending, then document ascending
 pub record IsListOf (texts : List (List ℕ)) (term : List ℕ) (entries : List Entry) : Type 0 where
   pub same : IsPermutation (postings texts term) entries

@@ -3,7 +3,8 @@ use Rattle.std.proofs.Common.{◌≡◌, ◌+◌, ◌≤◌, ◌<◌, ◌++◌, 
 use Rattle.std.specs.Prelude.{if◌then◌else◌}
 use Rattle.std.proofs.lemmas.Bool.Decides.{nat_tests}
 use Rattle.std.proofs.lemmas.Bool.{cases_lt}
-use Rattle.ats_proof.specs.Written.{Written, Holds, writing, after, joined}
+use Rattle.ats_proof.specs.Written.{Written, writing, after, joined}
+use Rattle.ats_proof.specs.Inner.Written.{Holds}
 
 -- past the limit nothing is kept
 pub after_beyond : (limit asked : ℕ) (kept : Option (List ℕ)) (more : List ℕ) → limit < asked + length more

@@ -11,7 +11,8 @@ use Rattle.ats_grammar.specs.Front.{Come}
 use Rattle.ats_grammar.specs.Position.{HeaderValue, header_fields, AreDigests}
 use Rattle.ats_grammar.specs.Position as position
 use Rattle.ats_proof.specs.Parts.{parts_in}
-use Rattle.ats_proof.specs.Reading.{digest_size, digest_in, header_at}
+use Rattle.ats_proof.specs.Reading.{digest_size, digest_in}
+use Rattle.ats_proof.specs.Inner.Reading.{header_at}
 use Rattle.ats_proof.proofs.Encoded.{header_first, length_digests}
 use Rattle.ats_proof.proofs.Numbers.{number-spelled}
 

@@ -7,7 +7,7 @@ use Rattle.ats_proof.specs.Parts.{parts_in, total_size, counted_in}
 use Rattle.ats_proof.specs.Value.{TermsSection, Documents, Proof, present_in}
 use Rattle.ats_proof.specs.Reading.{digest_size, digest_in, id_size, id_in, doc_size, doc_in, section_size, section_in, slots_in, met_in, is_tra, met_place, docs_place, doc_digests_place, sections_place, answer_place, documents_in, proof_in}
 use Rattle.ats_proof.specs.Runs.{sections_rise}
-use Rattle.ats_proof.specs.Told.{IsPlaced}
+use Rattle.ats_proof.specs.Inner.Told.{IsPlaced}
 use Rattle.ats_proof.proofs.InRange.{in_range}
 use Rattle.ats_proof.proofs.Runs.{length-parts}
 use Rattle.ats_proof.proofs.Taking.{total_fixed}

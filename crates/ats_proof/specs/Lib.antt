@@ -5,10 +5,10 @@ pub mod Reading
 pub mod Runs
 pub mod Seen
 pub mod SeenLists
-pub mod Told
 pub mod SeenCursor
 pub mod SeenTerms
 pub mod SeenDocs
 pub mod Ranges
 pub mod Records
 pub mod Written
+pub mod Inner

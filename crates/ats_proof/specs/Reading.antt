@@ -111,16 +111,6 @@ header_in bytes = record {
   texts_root = take 32 (drop 79 bytes);
 }
 
--- the header that begins here with its version
-abbrev pub header_at : List ℕ → Header
-header_at bytes = record {
-  documents = number_in 4 (drop 1 bytes);
-  dict_leaves = number_in 4 (drop 5 bytes);
-  dict_root = take 32 (drop 9 bytes);
-  docs_root = take 32 (drop 41 bytes);
-  texts_root = take 32 (drop 73 bytes);
-}
-
 -- the number of query terms, and where the parts after it begin
 abbrev pub terms_in : List ℕ → ℕ
 terms_in bytes = number_in 2 (drop 111 bytes)

@@ -1,5 +1,5 @@
 -- What was appended to a writer of records.
-use Rattle.std.specs.Prelude.{◌≡◌, ◌≤◌, ◌<◌, ◌+◌, ℕ, List, ◌++◌, length, nat_lt, if◌then◌else◌, Option, Some, None}
+use Rattle.std.specs.Prelude.{◌+◌, ℕ, List, ◌++◌, length, nat_lt, if◌then◌else◌, Option, Some, None}
 
 -- the limit of a writer, how many bytes were appended in all, and the bytes themselves unless they are more than the
 -- limit
@@ -25,8 +25,3 @@ after written more = record {
   asked = written.asked + length more;
   kept = if nat_lt written.limit (written.asked + length more) then None else joined written.kept more;
 }
-
--- either all bytes are kept, or more than the limit were appended
-abbrev pub Holds : ℕ → ℕ → Option (List ℕ) → Type 0
-Holds limit asked None = limit < asked
-Holds limit asked (Some bytes) = (asked ≤ limit) × (length bytes ≡ asked)

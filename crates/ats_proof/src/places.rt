@@ -2,7 +2,7 @@
 
 ghost use Rattle.std.specs.Prelude.{◌≡◌, ◌≤◌, ◌<◌, ◌+◌, ◌*◌, ◌^◌, true, length, drop};
 ghost use Rattle.ats_proof.specs.Reading.{dict_digests_place, slots_place, doc_digests_place, sections_place, answer_place};
-ghost use Rattle.ats_proof.specs.Told.{HasRoom};
+ghost use Rattle.ats_proof.specs.Inner.Told.{HasRoom};
 
 use crate::bytes::{number_2, number_4};
 use crate::record::{DICT_BACK_BYTES, FRONT_BYTES};
@@ -62,7 +62,7 @@ fn sections_at(bytes: &[u8], doc_digests: usize) -> usize
 }
 
 impl Begun {
-    ghost use Rattle.ats_proof.specs.Told.{IsBegun};
+    ghost use Rattle.ats_proof.specs.Inner.Told.{IsBegun};
 
     /// The parts up to the prefixes.
     pub(crate) fn of(bytes: &[u8]) -> Begun
@@ -88,7 +88,7 @@ impl Begun {
 
 impl Ended {
     ghost use Rattle.ats_proof.specs.Reading.{is_tra, docs_place, met_in, slots_in};
-    ghost use Rattle.ats_proof.specs.Told.{IsEnded};
+    ghost use Rattle.ats_proof.specs.Inner.Told.{IsEnded};
     ghost use Rattle.ats_proof.specs.Value.{present_in};
 
     // The parts after the prefixes if documents are shown.

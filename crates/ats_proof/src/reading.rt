@@ -5,7 +5,7 @@ ghost use Rattle.ats_grammar.specs.declared.fault.ShapeFault.{ShapeFault};
 ghost use Rattle.ats_grammar.specs.Front.{IsBad, IsSpelling};
 ghost use Rattle.ats_grammar.specs.Grammar.{proof_schema};
 ghost use Rattle.ats_proof.specs.Reading.{proof_in};
-ghost use Rattle.ats_proof.specs.Told.{HasRoom};
+ghost use Rattle.ats_proof.specs.Inner.Told.{HasRoom};
 ghost use Rattle.ats_proof.specs.Value.{IsProof};
 
 use crate::bytes::number_1;

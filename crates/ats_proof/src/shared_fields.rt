@@ -6,7 +6,7 @@ ghost use Rattle.ats_dict.specs.Header.{IsHeader};
 ghost use Rattle.ats_grammar.specs.Front.{Spells, IsBad};
 ghost use Rattle.ats_grammar.specs.Position.{StandsBefore, Passes, HasFault};
 ghost use Rattle.ats_grammar.specs.Table.{Table, Schema, spelled};
-ghost use Rattle.ats_proof.specs.Reading.{header_at};
+ghost use Rattle.ats_proof.specs.Inner.Reading.{header_at};
 ghost use Rattle.ats_proof.specs.Seen.{digests_of};
 ghost use Rattle.ats_proof.specs.SharedTables.{file, archive, last_digests};
 ghost use Rattle.ats_proof.specs.Value.{number_of_format, archive_fields};

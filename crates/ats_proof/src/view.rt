@@ -29,7 +29,7 @@ pub struct ProofView<'a> {
 
 impl<'a> Model for ProofView<'a> {
     ghost use Rattle.ats_proof.specs.Reading.{proof_in};
-    ghost use Rattle.ats_proof.specs.Told.{IsPlaced};
+    ghost use Rattle.ats_proof.specs.Inner.Told.{IsPlaced};
     ghost use Rattle.ats_proof.specs.Value.{Proof};
 
     ghost Value = { Proof };

@@ -30,7 +30,8 @@ pub struct ProofWriter {
 }
 
 impl Model for ProofWriter {
-    ghost use Rattle.ats_proof.specs.Written.{Written, Holds};
+    ghost use Rattle.ats_proof.specs.Written.{Written};
+    ghost use Rattle.ats_proof.specs.Inner.Written.{Holds};
 
     ghost Value = { Written };
 

@@ -20,7 +20,7 @@ use Rattle.ats_honest.specs.Documents.{HasDocuments}
 use Rattle.ats_honest.specs.Lanes.{lanes_of}
 use Rattle.ats_honest.specs.Honest.{prefixes}
 use Rattle.ats_honest.proofs.Public.{HasParts, documents_are, lists_each, proof_comes, proof_of, shown_of}
-use Rattle.ats_prover.specs.Writing.{IsShownWith, IsWritten, put}
+use Rattle.ats_prover.specs.Inner.Writing.{IsShownWith, IsWritten, put}
 use Rattle.ats_prover.proofs.Putting.{put_all}
 use Rattle.ats_prover.proofs.Records.{IsKindOf, front_is}
 

@@ -4,7 +4,7 @@ use Rattle.std.specs.List.{concat}
 use Rattle.ats_proof.specs.Written.{Written, after, writing}
 use Rattle.ats_proof.specs.Value.{IsProof, Proof, fields_of}
 use Rattle.ats_honest.specs.Honest.{length_of}
-use Rattle.ats_prover.specs.Writing.{IsWritten}
+use Rattle.ats_prover.specs.Inner.Writing.{IsWritten}
 
 abbrev pub AreJoined : Type 0
 AreJoined = (limit : ℕ) (bytes more : List ℕ) → after (writing limit bytes) more ≡ writing limit (bytes ++ more)

@@ -12,8 +12,8 @@ use Rattle.ats_bound.specs.Schedule.{WholeLane, whole_lane, whole_lanes}
 use Rattle.ats_bound.specs.declared.lane.Lane.{Lane}
 use Rattle.ats_proof.specs.Written.{Written}
 use Rattle.std.proofs.lemmas.List.{length-map, get_or-map}
-use Rattle.ats_prover.specs.Nodes.{list_digests}
-use Rattle.ats_prover.specs.Writing.{put}
+use Rattle.ats_prover.specs.Inner.Nodes.{list_digests}
+use Rattle.ats_prover.specs.Inner.Writing.{put}
 use Rattle.ats_prover.proofs.Putting.{put_more}
 use Rattle.ats_proof.specs.Value.{Prefix, prefix_fields}
 use Rattle.ats_honest.specs.Honest.{prefix_of, prefixes}

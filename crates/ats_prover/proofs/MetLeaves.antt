@@ -14,10 +14,10 @@ use Rattle.ats_proof.specs.declared.record.Algorithm.TheVariants.{Tra, Tnra}
 use Rattle.ats_proof.specs.Parts.{counted}
 use Rattle.ats_proof.specs.Value.{TermsSection, digest_fields, doc_fields, section_fields}
 use Rattle.ats_honest.specs.Documents.{AreHonestSections, IsHonestSection, IsTermSpot, document_leaf}
-use Rattle.ats_honest.specs.Order.{ComesIn}
+use Rattle.ats_honest.specs.Inner.Order.{ComesIn}
 use Rattle.ats_honest.specs.Terms.{AreNeeded, HaveSpots}
 use Rattle.ats_honest.proofs.Public.{is_section, section_comes, section_of, IsSmall, documents_come}
-use Rattle.ats_prover.specs.Writing.{AreDocumentsWritten, AreSectionsWritten, IsSectionWritten, IsStarted, put}
+use Rattle.ats_prover.specs.Inner.Writing.{AreDocumentsWritten, AreSectionsWritten, IsSectionWritten, IsStarted, put}
 use Rattle.ats_prover.proofs.Putting.{put_put}
 
 -- ---- a section

@@ -8,7 +8,7 @@ use Rattle.std.proofs.lemmas.Bool.{cases_lt}
 use Rattle.std.proofs.lemmas.List.{flat_map_more, get_or-map, length-map}
 use Rattle.std.proofs.lemmas.List.Folds.{concat-append}
 use Rattle.ats_proof.specs.Written.{Written, after, joined}
-use Rattle.ats_prover.specs.Writing.{IsStarted, put}
+use Rattle.ats_prover.specs.Inner.Writing.{IsStarted, put}
 
 joined_twice : (kept : Option (List ℕ)) (a b : List ℕ) → joined (joined kept a) b ≡ joined kept (a ++ b)
 joined_twice None a b = refl

@@ -1,5 +1,2 @@
-pub mod Places
-pub mod Nodes
 pub mod Fault
-pub mod Writing
-pub mod Found
+pub mod Inner

@@ -4,7 +4,7 @@ ghost use Rattle.std.specs.Prelude.{◌≡◌, ◌+◌, ◌≤◌, ◌*◌, ◌^
 ghost use Rattle.ats_bound.specs.declared.bracket.Bracket.{Bracket as Bounds};
 ghost use Rattle.ats_proof.specs.Parts.{counted};
 ghost use Rattle.ats_proof.specs.Value.{id_fields};
-ghost use Rattle.ats_prover.specs.Writing.{put};
+ghost use Rattle.ats_prover.specs.Inner.Writing.{put};
 
 use crate::fault::OutOfMemory;
 use ats_bound::Bracket;

@@ -8,8 +8,9 @@ ghost use Rattle.ats_tree.specs.Kept.{kept_digests};
 ghost use Rattle.ats_dict.specs.Dictionary.{IsDictionary, dict_leaves};
 ghost use Rattle.ats_proof.specs.Parts.{counted};
 ghost use Rattle.ats_proof.specs.Value.{digest_fields, entry_fields, slot_fields};
-ghost use Rattle.ats_honest.specs.Terms.{AreNeeded, AreSpots, lower, needs, place, shown_entry, slot_of};
-ghost use Rattle.ats_prover.specs.Writing.{put};
+ghost use Rattle.ats_honest.specs.Terms.{AreNeeded, AreSpots, needs, place, shown_entry, slot_of};
+ghost use Rattle.ats_honest.specs.Inner.Terms.{lower};
+ghost use Rattle.ats_prover.specs.Inner.Writing.{put};
 
 use crate::fault::OutOfMemory;
 use crate::shown::write_rest;

@@ -9,7 +9,7 @@ ghost use Rattle.ats_doctree.specs.declared.doc_leaf.DocLeaf.{DocLeaf as Leaf};
 ghost use Rattle.ats_proof.specs.Parts.{counted};
 ghost use Rattle.ats_proof.specs.Value.{digest_fields, doc_fields};
 ghost use Rattle.ats_honest.specs.Documents.{document_leaf};
-ghost use Rattle.ats_prover.specs.Writing.{AreDocumentsWritten, AreSectionsWritten, IsStarted, put};
+ghost use Rattle.ats_prover.specs.Inner.Writing.{AreDocumentsWritten, AreSectionsWritten, IsStarted, put};
 
 use crate::fault::OutOfMemory;
 use crate::present_terms::PresentTerms;

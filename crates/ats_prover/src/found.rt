@@ -3,7 +3,7 @@
 ghost use Rattle.std.specs.Prelude.{◌≡◌, IfOk, IfErr, length, map};
 ghost use Rattle.ats_bound.specs.Schedule.{whole_lanes};
 ghost use Rattle.ats_honest.specs.Lanes.{lanes_of};
-ghost use Rattle.ats_prover.specs.Found.{AreFound};
+ghost use Rattle.ats_prover.specs.Inner.Found.{AreFound};
 ghost use Rattle.ats_prover.specs.declared.fault.ProveFault.TheVariants.{OutOfMemory as MemoryWanted};
 
 use crate::dictionary::spots;

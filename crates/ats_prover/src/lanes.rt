@@ -8,7 +8,7 @@ ghost use Rattle.ats_bound.specs.Schedule.{AreWholeLanes, whole_lanes};
 ghost use Rattle.ats_commit.specs.Trees.{dictionary_of};
 ghost use Rattle.ats_honest.specs.Terms.{AreSpots};
 ghost use Rattle.ats_honest.specs.Lanes.{lanes_of};
-ghost use Rattle.ats_prover.specs.Nodes.{list_digests};
+ghost use Rattle.ats_prover.specs.Inner.Nodes.{list_digests};
 
 use crate::fault::OutOfMemory;
 use ats_bound::{Cut, Lane};

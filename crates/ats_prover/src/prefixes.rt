@@ -6,14 +6,12 @@ ghost use Rattle.std.specs.List.Sorted.{IsStrictlyIncreasing};
 ghost use Rattle.ats_lists.specs.KeptList.{kept_list};
 ghost use Rattle.ats_postings.specs.Lists.{IsList};
 ghost use Rattle.ats_lists.specs.declared.format.Format.{Format};
-ghost use Rattle.ats_bound.specs.Schedule.{whole_lanes};
-ghost use Rattle.ats_bound.specs.Schedule.{IsCut};
-ghost use Rattle.ats_bound.specs.Schedule.{AreWholeLanes};
+ghost use Rattle.ats_bound.specs.Schedule.{whole_lanes, IsCut, AreWholeLanes};
 ghost use Rattle.ats_proof.specs.Parts.{counted};
 ghost use Rattle.ats_proof.specs.Value.{id_fields, posting_fields, prefix_fields};
 ghost use Rattle.ats_honest.specs.Honest.{placed, prefix_of, prefixes};
-ghost use Rattle.ats_prover.specs.Nodes.{list_digests};
-ghost use Rattle.ats_prover.specs.Writing.{put};
+ghost use Rattle.ats_prover.specs.Inner.Nodes.{list_digests};
+ghost use Rattle.ats_prover.specs.Inner.Writing.{put};
 
 use crate::answer::write_met;
 use crate::fault::OutOfMemory;

@@ -3,7 +3,7 @@
 ghost use Rattle.std.specs.Prelude.{◌≡◌, ◌<◌, ◌≤◌, ℕ, List, length, slice_index_or, IfOk};
 ghost use Rattle.ats_terms.specs.Query.{Rises};
 ghost use Rattle.ats_terms.specs.Terms.{IsTerm};
-ghost use Rattle.ats_honest.specs.Present.{standing};
+ghost use Rattle.ats_honest.specs.Inner.Present.{standing};
 
 use crate::fault::OutOfMemory;
 use ats_dict::Spot;
@@ -21,7 +21,7 @@ pub(crate) struct PresentTerms<'a> {
 
 impl<'a> Model for PresentTerms<'a> {
     ghost use Rattle.std.specs.Prelude.{List, ℕ};
-    ghost use Rattle.ats_prover.specs.Places.{ArePlaces, terms_at};
+    ghost use Rattle.ats_prover.specs.Inner.Places.{ArePlaces, terms_at};
 
     ghost Value = { List (List ℕ × ℕ) };
 

@@ -8,9 +8,9 @@ ghost use Rattle.ats_proof.specs.Value.{Proof};
 ghost use Rattle.ats_prover.specs.declared.fault.ProveFault.TheVariants.{OutOfMemory as MemoryWanted};
 ghost use Rattle.ats_honest.specs.Lanes.{lanes_of};
 ghost use Rattle.ats_honest.specs.Honest.{AreMet, IsCutProved, IsCutShown, IsHonest, IsProved, length_of};
-ghost use Rattle.ats_prover.specs.Found.{AreFound};
+ghost use Rattle.ats_prover.specs.Inner.Found.{AreFound};
 ghost use Rattle.ats_prover.specs.Fault.{IsAnswerWithin, IsCutFault, IsFault};
-ghost use Rattle.ats_prover.specs.Writing.{IsCutWritten, IsShownWith, IsWritten};
+ghost use Rattle.ats_prover.specs.Inner.Writing.{IsCutWritten, IsShownWith, IsWritten};
 
 use crate::answer::{documents, write_answer};
 use crate::dictionary::write_terms;

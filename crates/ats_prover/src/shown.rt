@@ -7,8 +7,9 @@ ghost use Rattle.ats_tree.specs.Elided.{elided_digests};
 ghost use Rattle.ats_tree.specs.Kept.{kept_digests};
 ghost use Rattle.ats_proof.specs.Parts.{counted};
 ghost use Rattle.ats_proof.specs.Value.{digest_fields, slot_fields};
-ghost use Rattle.ats_honest.specs.Terms.{AreNeeded, lower, needs, place, slot_of};
-ghost use Rattle.ats_prover.specs.Writing.{IsStarted, put};
+ghost use Rattle.ats_honest.specs.Terms.{AreNeeded, needs, place, slot_of};
+ghost use Rattle.ats_honest.specs.Inner.Terms.{lower};
+ghost use Rattle.ats_prover.specs.Inner.Writing.{IsStarted, put};
 
 use crate::fault::OutOfMemory;
 use ats_dict::Spot;

@@ -10,8 +10,9 @@ ghost use Rattle.ats_doctree.specs.Sentinels.{terms_leaves};
 ghost use Rattle.ats_proof.specs.Parts.{counted};
 ghost use Rattle.ats_proof.specs.Value.{digest_fields, slot_fields, term_fields};
 ghost use Rattle.ats_honest.specs.Documents.{IsTermSpot, shown_term};
-ghost use Rattle.ats_honest.specs.Terms.{HaveSpots, lower, slot_of};
-ghost use Rattle.ats_prover.specs.Writing.{IsSectionWritten, put};
+ghost use Rattle.ats_honest.specs.Terms.{HaveSpots, slot_of};
+ghost use Rattle.ats_honest.specs.Inner.Terms.{lower};
+ghost use Rattle.ats_prover.specs.Inner.Writing.{IsSectionWritten, put};
 
 use crate::fault::OutOfMemory;
 use crate::present_terms::PresentTerms;

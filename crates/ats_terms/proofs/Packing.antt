@@ -5,7 +5,7 @@ use Rattle.std.specs.List.{slice_range}
 use Rattle.std.proofs.lemmas.List.{drop_at, take-append-le, drop-append-le, length-drop}
 use Rattle.std.proofs.lemmas.List.Elements.{All-push}
 use Rattle.ats_terms.specs.Terms.{IsTerm}
-use Rattle.ats_terms.specs.Packed.{strings_from, strings, start_of, AreEnds, ArePacked}
+use Rattle.ats_terms.specs.Inner.Packed.{strings_from, strings, start_of, AreEnds, ArePacked}
 
 ends_within : (start : ℕ) (ends : List ℕ) (len : ℕ) → AreEnds start ends len → start ≤ len
 ends_within start [] len is = omega arith

@@ -3,7 +3,7 @@ use Rattle.std.proofs.Common.{◌≡◌, ◌≢◌, ◌⊎◌, ◌≤◌, ◌∙
 use Rattle.ats_base.specs.Outside.{Rose, ShelfTold, StoresOnce}
 use Rattle.ats_plan.specs.Plan.{Refuses, Passes, ComesToShelf, IsKnown, LacksFirst, Leaves}
 use Rattle.ats_plan.specs.Runs.{IsDone, IsStopped}
-use Rattle.ats_plan.specs.Sound.{IsSound}
+use Rattle.ats_plan.specs.Inner.Sound.{IsSound}
 use Rattle.ats_plan.proofs.Public.{Cause, Refused, Wanted, Broken, stop_cause, one_refusal, passes_kept, does_passes, does_asked, does_counts, does_later, does_leaves, does_untouched, stops_asked, stops_alone, stops_counts, stops_files, stops_later, stops_leaves, stops_uncounted, stops_untouched}
 use Rattle.ats_console.specs.Words.{Command, command_of}
 use Rattle.ats_console.specs.Stops.{End, Done, Stopped, Unprinted, status_of, status_of_stop, former_of, last_of}

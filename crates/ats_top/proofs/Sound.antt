@@ -2,7 +2,7 @@
 use Rattle.std.proofs.Common.{ℕ, List}
 use Rattle.ats_base.specs.Outside.{ShelfTold}
 use Rattle.ats_plan.specs.Runs.{IsStopped}
-use Rattle.ats_plan.specs.Sound.{IsSound}
+use Rattle.ats_plan.specs.Inner.Sound.{IsSound}
 use Rattle.ats_plan.proofs.Public.{stops_otherwise}
 use Rattle.ats_console.specs.Words.{Command, Rank, Build, Root, Prove, Verify, Ask, Serve, Audit, Sweep, Trial, Migrate, Give, Fetch, AuditFetch, ProveBoth, Both, AuditBoth, Grow, Growth, AuditGrowth}
 use Rattle.ats_console.specs.declared.stops.Stop.TheVariants.{Usage, Shelf, Memory}

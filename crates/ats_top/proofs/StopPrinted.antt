@@ -4,7 +4,7 @@ use Rattle.std.proofs.Common.{◌≡◌, ◌≢◌, ◌⊎◌, ◌∙◌, ℕ, L
 use Rattle.ats_plan.specs.Files.{Files}
 use Rattle.ats_plan.specs.Plan.{Refuses, Passes, IsKnown}
 use Rattle.ats_plan.specs.Runs.{IsDone}
-use Rattle.ats_plan.specs.Sound.{IsSound}
+use Rattle.ats_plan.specs.Inner.Sound.{IsSound}
 use Rattle.ats_plan.proofs.Public.{Cause, Refused, Wanted, Broken, stop_cause, one_refusal, passes_kept, does_passes}
 use Rattle.ats_console.specs.Words.{Command, Ask, Serve, command_of}
 use Rattle.ats_console.specs.Stops.{End, Done, Stopped, Unprinted, status_of, status_of_stop, former_of, last_of, text_of_stop}

@@ -8,7 +8,7 @@ use Rattle.ats_bound.specs.Lookup.{Table, looked_score, looked_score_from, looke
 use Rattle.ats_bound.specs.Narrow.{IsNarrow}
 use Rattle.ats_bound.specs.Schedule.{AreBracketsBy, WholeLane, shown}
 use Rattle.ats_bound.specs.Scored.{exact, exactly}
-use Rattle.ats_tra.specs.Looked.{score_by, score_from}
+use Rattle.ats_tra.specs.Inner.Looked.{score_by, score_from}
 
 score_push : (k : ℕ) (table : Table) (lanes : List WholeLane) (lane : WholeLane) (doc : ℕ)
     → score_from k table (lanes ++ lane ∷ []) doc ≡ score_from k table lanes doc + lane.coefficient * table (k + length lanes) doc

@@ -11,7 +11,7 @@ use Rattle.ats_bound.specs.Scored.{ScoredStanding, exactly}
 use Rattle.ats_bound.specs.QuickTest.{TellsSettled}
 use Rattle.ats_bound.specs.Settled.{ArePicks, IsSettled}
 use Rattle.ats_bound.specs.Stand.{IsStand}
-use Rattle.ats_tra.specs.Looked.{score_by}
+use Rattle.ats_tra.specs.Inner.Looked.{score_by}
 use Rattle.ats_tra.proofs.Exact.{scores_are_looked}
 
 -- the brackets of a stage are looked up

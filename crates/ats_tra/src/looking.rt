@@ -3,7 +3,7 @@
 ghost use Rattle.std.specs.Prelude.{◌≡◌, ◌<◌, ℕ, length, slice_index, IfOk};
 ghost use Rattle.ats_bound.specs.Schedule.{AreWholeLanes, whole_lanes};
 ghost use Rattle.ats_bound.specs.Scored.{first_document};
-ghost use Rattle.ats_tra.specs.Looked.{score_by};
+ghost use Rattle.ats_tra.specs.Inner.Looked.{score_by};
 
 use crate::access::RandomAccess;
 use crate::memory::OutOfMemory;

@@ -8,8 +8,8 @@ ghost use Rattle.ats_bound.specs.Front.{shown_on};
 ghost use Rattle.ats_bound.specs.Scored.{exactly};
 ghost use Rattle.ats_bound.specs.Settled.{IsSettled};
 ghost use Rattle.ats_bound.specs.Schedule.{AreBracketsBy, AreWholeLanes, IsFirstSettledBy, shown, whole_lanes};
-ghost use Rattle.ats_bound.specs.Stand.{IsEnd};
-ghost use Rattle.ats_tra.specs.Looked.{score_by};
+ghost use Rattle.ats_bound.specs.Inner.Stand.{IsEnd};
+ghost use Rattle.ats_tra.specs.Inner.Looked.{score_by};
 
 use crate::access::RandomAccess;
 use crate::looking::{first_scores, score};

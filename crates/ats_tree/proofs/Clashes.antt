@@ -16,7 +16,8 @@ use Rattle.ats_tree.specs.Paths.{Path, path_of, number_of}
 use Rattle.ats_tree.specs.Nodes.{Node, by_path}
 use Rattle.ats_tree.specs.Differences.{Hashed, moved, Difference, collision_or, first_collision}
 use Rattle.ats_tree.specs.Strings.{below, strings}
-use Rattle.ats_tree.specs.Clashes.{difference_of, under, part_strings, IsPlaced}
+use Rattle.ats_tree.specs.Clashes.{difference_of}
+use Rattle.ats_tree.specs.Inner.Clashes.{under, part_strings, IsPlaced}
 use Rattle.ats_tree.specs.declared.clashing.Clash.{Clash}
 use Rattle.ats_tree.proofs.Bound.{IsWhole, is_whole}
 use Rattle.ats_tree.proofs.NodeLemmas.{length-path_of, number_of-path_of, same_path}

@@ -7,7 +7,8 @@ use Rattle.std.proofs.lemmas.List.{append-nil, append_assoc, take_all, length-dr
 use Rattle.std.proofs.lemmas.List.Elements.{All-drop}
 use Rattle.ats_tree.specs.Tree.{Tree, empty, leaf, node, tree_within, tree_of, IsPowerOfTwo}
 use Rattle.ats_tree.specs.Shown.{Shown, positions_of, shown_at, places}
-use Rattle.ats_tree.specs.Part.{RisesFrom, shown_from, RisesWithin}
+use Rattle.ats_tree.specs.Part.{RisesFrom, shown_from}
+use Rattle.ats_tree.specs.Inner.Part.{RisesWithin}
 use Rattle.ats_tree.specs.Rebuild.{is_bare}
 use Rattle.ats_tree.specs.Elided.{shown_with, elided_of, elided_digests}
 use Rattle.ats_tree.specs.Kept.{digests_of, kept_digests, nodes_in, elided_places, digests_at, elided_part, elided_kept}

@@ -10,7 +10,8 @@ use Rattle.ats_tree.specs.Shown.{Shown, positions_of, first_position, first_leaf
 use Rattle.ats_tree.specs.Part.{RisesFrom, shown_from}
 use Rattle.ats_tree.specs.Elided.{shown_with, elided_digests}
 use Rattle.ats_tree.specs.Kept.{kept_digests, elided_part}
-use Rattle.ats_tree.specs.OwnShown.{IsOwnShown, IsOwnPart}
+use Rattle.ats_tree.specs.OwnShown.{IsOwnShown}
+use Rattle.ats_tree.specs.Inner.OwnShown.{IsOwnPart}
 use Rattle.ats_tree.proofs.Places.{All-from, from-from, from-all, from-skip, rises-less}
 use Rattle.ats_tree.proofs.Parts.{IsCut}
 use Rattle.ats_tree.proofs.KeptElided.{slice_from, part-none, part-one, part-cut, part-blank, kept-elided}

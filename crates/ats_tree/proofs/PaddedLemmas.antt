@@ -3,7 +3,7 @@ use Rattle.std.proofs.Common.{◌≡◌, ℕ, ◌+◌, ◌-◌, ◌≤◌, List,
 use Rattle.std.proofs.lemmas.List.{length-append, length-take-le, length-drop, drop-drop, drop-replicate}
 use Rattle.std.proofs.lemmas.Slice.{drop-put_mid}
 use borrow.Rule.Slice.PartMut.{put_mid}
-use Rattle.ats_tree.specs.Padded.{IsPadded}
+use Rattle.ats_tree.specs.Inner.Padded.{IsPadded}
 
 -- the bytes after a longer front are 0 too
 rest-more : (len k end : ℕ) (block : List ℕ) → drop len block ≡ replicate (128 - len) 0 → len + k ≡ end

@@ -2,7 +2,8 @@
 use Rattle.std.proofs.Common.{◌≡◌, ℕ, suc, ◌+◌, ◌<◌, ◌≤◌, List, [], ◌∷◌, arith, All}
 use Rattle.std.specs.List.Sorted.{IsStrictlyIncreasing}
 use Rattle.ats_tree.specs.Shown.{Shown, positions_of}
-use Rattle.ats_tree.specs.Part.{RisesFrom, RisesWithin}
+use Rattle.ats_tree.specs.Part.{RisesFrom}
+use Rattle.ats_tree.specs.Inner.Part.{RisesWithin}
 
 -- all but the first rise if all do
 increasing-tail : (p : ℕ) (ps : List ℕ) → IsStrictlyIncreasing (p ∷ ps) → IsStrictlyIncreasing ps

@@ -1,27 +1,11 @@
 -- Collisions as `Clash` reports them, and the parts of a tree that are searched for them.
-use Rattle.std.specs.Prelude.{ℕ, ◌-◌, ◌<◌, ◌≤◌, ◌^◌, List, ◌++◌, map, Option}
-use Rattle.ats_tree.specs.Tree.{Tree}
-use Rattle.ats_tree.specs.Paths.{Path, path_of}
+use Rattle.std.specs.Prelude.{ℕ, List}
+use Rattle.ats_tree.specs.Paths.{path_of}
 use Rattle.ats_tree.specs.Nodes.{Node, by_path}
-use Rattle.ats_tree.specs.Differences.{Hashed, moved, Difference}
-use Rattle.ats_tree.specs.Strings.{strings}
+use Rattle.ats_tree.specs.Differences.{Difference}
 use Rattle.ats_tree.specs.declared.clashing.Clash.{Clash}
 
 -- the two strings at one node that a clash has, by their bytes
 abbrev pub difference_of : {S : Type 0} → (S → List ℕ) → Clash S → Difference Node
 difference_of bytes clash =
     record { place = by_path (path_of clash.depth clash.turns); ours = bytes clash.ours; theirs = bytes clash.theirs }
-
--- the node to which further turns lead from the node of a path
-abbrev pub under : Path → Path → Node
-under path further = by_path (path ++ further)
-
--- the strings that rebuilding hashes in a part whose root is the node of a path
-abbrev pub part_strings : (List ℕ → List ℕ) → Path → Tree (Option (List ℕ)) → List (List ℕ) → List (Hashed Node)
-part_strings H path t ds = map (moved (under path)) (strings H t ds)
-
--- a part of n leaves whose root has this depth, in a tree of fewer than 2^32 leaves
-pub record IsPlaced (n depth turns : ℕ) : Type 0 where
-  pub deep : depth ≤ 32
-  pub few : n ≤ 2 ^ (32 - depth)
-  pub inside : turns < 2 ^ depth

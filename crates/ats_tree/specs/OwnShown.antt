@@ -1,8 +1,7 @@
 -- When what is shown of a tree is the tree's own.
-use Rattle.std.specs.Prelude.{◌≡◌, ℕ, ◌+◌, ◌<◌, ◌≤◌, List, length, take, Some, All, slice_get}
+use Rattle.std.specs.Prelude.{◌≡◌, ℕ, ◌≤◌, List, length, Some, All, slice_get}
 use Rattle.ats_tree.specs.Shown.{Shown, positions_of}
 use Rattle.ats_tree.specs.Elided.{elided_digests}
-use Rattle.ats_tree.specs.Kept.{elided_part}
 
 -- The tree has n leaves, at least one. Each shown leaf is the tree's own at its position, and the digests are those of the
 -- maximal subtrees with no shown leaf.
@@ -11,9 +10,3 @@ pub record IsOwnShown (H : List ℕ → List ℕ) (leaves : List (List ℕ)) (n 
   pub number : length leaves ≡ n
   pub own : All (λ s. slice_get leaves s.0 ≡ Some s.1) shown
   pub needed : digests ≡ elided_digests H leaves (positions_of shown)
-
--- The same of the n leaves from position `from` on, whose nodes have the first of `nodes`: later leaves and digests may
--- follow.
-pub record IsOwnPart (leaves nodes : List (List ℕ)) (from n : ℕ) (shown : List Shown) (digests : List (List ℕ)) : Type 0 where
-  pub own : All (λ s. s.0 < from + n → slice_get leaves s.0 ≡ Some s.1) shown
-  pub needed : take (length (elided_part nodes from n shown)) digests ≡ elided_part nodes from n shown

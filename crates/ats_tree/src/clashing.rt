@@ -1,7 +1,8 @@
 //! The first collision: a string that rebuilding a tree hashes, different from our string there, with the same digest.
 
 ghost use Rattle.std.specs.Prelude.{◌≡◌, ℕ, ◌+◌, ◌*◌, ◌^◌, ◌<◌, ◌≤◌, ◌≢◌, ◌↔◌, List, ◌∷◌, ◌++◌, length, map, All, Option, IsTrue, IsSome, IfSome, option_map};
-ghost use Rattle.ats_tree.specs.Clashes.{difference_of, part_strings, IsPlaced};
+ghost use Rattle.ats_tree.specs.Clashes.{difference_of};
+ghost use Rattle.ats_tree.specs.Inner.Clashes.{part_strings, IsPlaced};
 ghost use Rattle.ats_tree.specs.Differences.{moved, collision_or, first_collision};
 ghost use Rattle.ats_tree.specs.Nodes.{Node, by_path};
 ghost use Rattle.ats_tree.specs.Part.{RisesFrom, IsPart};

@@ -4,8 +4,9 @@ ghost use Rattle.std.specs.Prelude.{◌≡◌, ℕ, ◌↔◌, ◌+◌, ◌*◌,
 ghost use Rattle.std.specs.List.Sorted.{IsStrictlyIncreasing};
 ghost use Rattle.ats_tree.specs.Elided.{shown_with, elided_digests};
 ghost use Rattle.ats_tree.specs.Kept.{kept_digests, elided_part, IsNodeList};
-ghost use Rattle.ats_tree.specs.OwnShown.{IsOwnPart};
-ghost use Rattle.ats_tree.specs.Part.{RisesFrom, RisesWithin, shown_from};
+ghost use Rattle.ats_tree.specs.Inner.OwnShown.{IsOwnPart};
+ghost use Rattle.ats_tree.specs.Part.{RisesFrom, shown_from};
+ghost use Rattle.ats_tree.specs.Inner.Part.{RisesWithin};
 
 use crate::cut::cut_of;
 use crate::eliding::count_below;

@@ -18,7 +18,7 @@ pub struct HashedString {
 
 impl Model for HashedString {
     ghost use Rattle.std.specs.Prelude.{List, ℕ, ◌-◌, ◌++◌, length, take, replicate};
-    ghost use Rattle.ats_tree.specs.Padded.{IsPadded, padded-block, padded-len};
+    ghost use Rattle.ats_tree.specs.Inner.Padded.{IsPadded, padded-block, padded-len};
 
     ghost Value = { List ℕ };
 

@@ -7,7 +7,7 @@ ghost use Rattle.ats_tree.specs.Elided.{shown_with, elided_digests};
 ghost use Rattle.ats_tree.specs.Kept.{kept_digests, elided_part, elided_kept, IsNodeList};
 ghost use Rattle.ats_tree.specs.Nodes.{by_path};
 ghost use Rattle.ats_tree.specs.OwnShown.{IsOwnShown};
-ghost use Rattle.ats_tree.specs.Part.{RisesWithin};
+ghost use Rattle.ats_tree.specs.Inner.Part.{RisesWithin};
 ghost use Rattle.ats_tree.specs.Paths.{path_of};
 ghost use Rattle.ats_tree.specs.Strings.{node_string};
 

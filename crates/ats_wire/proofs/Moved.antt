@@ -8,7 +8,8 @@ use Rattle.ats_base.specs.Links.{LinkTold, Exchanged}
 use Rattle.ats_base.proofs.Public.{exchanged_none, exchanged_then}
 use Rattle.std.specs.Int.{to_be_bytes, w32}
 use Rattle.ats_wire.specs.Requests.{framed}
-use Rattle.ats_wire.specs.Moving.{FailsOnce, Moves, IsCutOff}
+use Rattle.ats_wire.specs.Moving.{FailsOnce, Moves}
+use Rattle.ats_wire.specs.Inner.Moving.{IsCutOff}
 
 pub moves_none : (before : LinkTold) → Moves before before [] [] 0 false
 moves_none before = record { over = exchanged_none before.traffic; turns = omega arith; faults = refl }

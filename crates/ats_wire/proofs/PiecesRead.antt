@@ -12,8 +12,10 @@ use Rattle.ats_grammar.specs.Grammar.{proof_schema}
 use Rattle.ats_grammar.proofs.Public.{fault_stays}
 use Rattle.ats_wire.specs.Moving.{Moves}
 use Rattle.ats_wire.specs.Requests.{Question, framed}
-use Rattle.ats_wire.specs.Asking.{request_frame, breaks_link, is_broken, IsReplyLength, RestFault}
-use Rattle.ats_wire.specs.Feeding.{IsFed, IsAskedFed, SaysFed}
+use Rattle.ats_wire.specs.Asking.{request_frame, breaks_link, is_broken, IsReplyLength}
+use Rattle.ats_wire.specs.Inner.Asking.{RestFault}
+use Rattle.ats_wire.specs.Feeding.{IsFed, IsAskedFed}
+use Rattle.ats_wire.specs.Inner.Feeding.{SaysFed}
 use Rattle.ats_wire.specs.declared.asking.AskFault.{AskFault}
 use Rattle.ats_wire.specs.declared.feeding.Fed.{Fed}
 use Rattle.ats_wire.proofs.Replying.{asked, rest_said}

@@ -5,7 +5,8 @@ use Rattle.std.proofs.lemmas.Bool.{cases_lt}
 use Rattle.ats_base.specs.Links.{LinkTold}
 use Rattle.ats_wire.specs.Requests.{Question, framed}
 use Rattle.ats_wire.specs.Moving.{Moves}
-use Rattle.ats_wire.specs.Asking.{breaks_link, is_broken, IsReplyLength, IsKind, IsBegun, ReplyFault, RestFault, Says, Exchanges, IsAsked, request_frame}
+use Rattle.ats_wire.specs.Asking.{breaks_link, is_broken, IsReplyLength, IsKind, IsBegun, ReplyFault, Says, Exchanges, IsAsked, request_frame}
+use Rattle.ats_wire.specs.Inner.Asking.{RestFault}
 use Rattle.ats_wire.specs.declared.asking.AskFault.{AskFault}
 use Rattle.ats_wire.specs.declared.asking.AskFault.TheVariants.{ShortReply, LongReply, BadReply, PeerRefused, ReadFault, WriteFault, OutOfMemory}
 use Rattle.ats_wire.proofs.Moved.{moves_then}

@@ -8,7 +8,8 @@ use Rattle.ats_base.specs.Links.{LinkTold}
 use Rattle.ats_wire.specs.Requests.{Question, framed}
 use Rattle.ats_wire.specs.Replies.{Answers, reply_bytes}
 use Rattle.ats_wire.specs.Moving.{Moves}
-use Rattle.ats_wire.specs.Connections.{IsFrameLength, IsAnswered, IsReplied, IsCutReply, IsServed, Ends, EndsReading, frames, replies}
+use Rattle.ats_wire.specs.Connections.{IsFrameLength, IsAnswered, IsServed, Ends, EndsReading, frames, replies}
+use Rattle.ats_wire.specs.Inner.Connections.{IsReplied, IsCutReply}
 use Rattle.ats_wire.specs.declared.reply.Reply.{Reply}
 use Rattle.ats_wire.specs.declared.serving.ConnectionEnd.{ConnectionEnd}
 use Rattle.ats_wire.specs.declared.serving.ConnectionEnd.TheVariants.{Ended, CutFrame, BadFrame, RequestLimit, ReadFault, WriteFault}

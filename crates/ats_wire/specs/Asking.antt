@@ -78,15 +78,6 @@ pub record IsAsked (question : Question) (before now : LinkTold) (result : Resul
   pub moved : Moves before now read written 1 (is_broken result)
   pub says : Exchanges (request_frame question) now read written result
 
--- What was read after the head of a reply, if it was not all of `size` bytes, by the fault that is returned; the head
--- has 5 bytes. Out of memory may also be returned after all bytes.
-abbrev pub RestFault : LinkTold → (size : ℕ) → List ℕ → AskFault → Type 0
-RestFault now size came (ShortReply got wanted) = (length came < size) × (got ≡ length came + 5)
-    × (wanted ≡ size + 5) × IsAtEnd now.traffic
-RestFault now size came ReadFault = length came < size
-RestFault now size came OutOfMemory = length came ≤ size
-RestFault now size came fault = ⊥
-
 -- a result that what the peer sent decided, not a fault or lack of memory; a length has 4 bytes
 abbrev pub IsHeard : Result (List ℕ) AskFault → Type 0
 IsHeard (Ok bytes) = Unit {0}

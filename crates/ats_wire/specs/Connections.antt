@@ -5,7 +5,7 @@ use Rattle.std.specs.List.{All, flat_map}
 use Rattle.ats_base.specs.Links.{LinkTold, IsAtEnd}
 use Rattle.ats_wire.specs.Requests.{Question, framed}
 use Rattle.ats_wire.specs.Replies.{Answers, reply_bytes}
-use Rattle.ats_wire.specs.Moving.{Moves, IsCutOff}
+use Rattle.ats_wire.specs.Moving.{Moves}
 use Rattle.ats_wire.specs.declared.reply.Reply.{Reply}
 use Rattle.ats_wire.specs.declared.serving.ConnectionEnd.{ConnectionEnd}
 use Rattle.ats_wire.specs.declared.serving.ConnectionEnd.TheVariants.{Ended, CutFrame, BadFrame, RequestLimit, ReadFault, WriteFault}
@@ -19,14 +19,6 @@ IsFrameLength n = (6 ≤ n) × (n ≤ 4096)
 pub record IsAnswered (gives : Question → Reply → Type 0) (turn : List ℕ × Reply) : Type 0 where
   pub frame : IsFrameLength (length turn.0)
   pub reply : Answers gives turn.0 turn.1
-
--- a reply to this body was written whole
-abbrev pub IsReplied : (Question → Reply → Type 0) → LinkTold → LinkTold → List ℕ → Type 0
-IsReplied gives before now body = (reply : Reply) × Answers gives body reply × Moves before now [] (reply_bytes reply) 0 false
-
--- a fault cut off the reply to this body before it was written whole
-abbrev pub IsCutReply : (Question → Reply → Type 0) → LinkTold → LinkTold → List ℕ → Type 0
-IsCutReply gives before now body = (reply : Reply) × Answers gives body reply × IsCutOff before now (reply_bytes reply)
 
 -- the bytes of the frames, and those of the replies, each one after another
 abbrev pub frames : List (List ℕ × Reply) → List ℕ

@@ -4,7 +4,7 @@ use Rattle.ats_base.specs.Links.{LinkTold}
 use Rattle.ats_grammar.specs.Front.{IsSpelling, IsBad}
 use Rattle.ats_grammar.specs.Grammar.{proof_schema}
 use Rattle.ats_wire.specs.Requests.{Question}
-use Rattle.ats_wire.specs.Asking.{IsAsked, Says}
+use Rattle.ats_wire.specs.Asking.{IsAsked}
 use Rattle.ats_wire.specs.declared.asking.AskFault.{AskFault}
 use Rattle.ats_wire.specs.declared.feeding.Fed.{Fed}
 use Rattle.ats_wire.specs.declared.feeding.Fed.TheVariants.{Whole, Refused}
@@ -19,8 +19,3 @@ IsFed (Refused fault) bytes = IsBad proof_schema bytes fault
 abbrev pub IsAskedFed : Question → LinkTold → LinkTold → Result Fed AskFault → Type 0
 IsAskedFed question before now (Ok fed) = (bytes : List ℕ) × IsAsked question before now (Ok bytes) × IsFed fed bytes
 IsAskedFed question before now (Err fault) = IsAsked question before now (Err fault)
-
--- what was read: either a whole reply with bytes that have this verdict, or a fault
-abbrev pub SaysFed : LinkTold → List ℕ → Result Fed AskFault → Type 0
-SaysFed now read (Ok fed) = (bytes : List ℕ) × Says now read (Ok bytes) × IsFed fed bytes
-SaysFed now read (Err fault) = Says now read (Err fault)

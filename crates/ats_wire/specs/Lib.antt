@@ -4,3 +4,4 @@ pub mod Replies
 pub mod Moving
 pub mod Connections
 pub mod Feeding
+pub mod Inner

@@ -4,7 +4,8 @@ ghost use Rattle.std.specs.Prelude.{◌≡◌, ◌≤◌, ◌<◌, ◌+◌, ◌^
 ghost use Rattle.std.specs.Int.{to_be_bytes, w32};
 ghost use Rattle.ats_wire.specs.Requests.{framed, request_body};
 ghost use Rattle.ats_wire.specs.Moving.{Moves};
-ghost use Rattle.ats_wire.specs.Asking.{IsAsked, Says, breaks_link, is_broken, ReplyFault, RestFault, IsReplyLength, IsKind};
+ghost use Rattle.ats_wire.specs.Asking.{IsAsked, Says, breaks_link, is_broken, ReplyFault, IsReplyLength, IsKind};
+ghost use Rattle.ats_wire.specs.Inner.Asking.{RestFault};
 
 use crate::receiving::{Filling, fill};
 use crate::request::{VERSION, byte_of};

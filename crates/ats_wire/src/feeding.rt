@@ -2,8 +2,10 @@
 
 ghost use Rattle.std.specs.Prelude.{◌≡◌, ◌≤◌, ◌+◌, ◌^◌, ◌++◌, [], ℕ, List, length, false, IfOk, IfErr, OnOk};
 ghost use Rattle.ats_wire.specs.Moving.{Moves};
-ghost use Rattle.ats_wire.specs.Asking.{RestFault, breaks_link, is_broken};
-ghost use Rattle.ats_wire.specs.Feeding.{IsFed, IsAskedFed, SaysFed};
+ghost use Rattle.ats_wire.specs.Asking.{breaks_link, is_broken};
+ghost use Rattle.ats_wire.specs.Inner.Asking.{RestFault};
+ghost use Rattle.ats_wire.specs.Feeding.{IsFed, IsAskedFed};
+ghost use Rattle.ats_wire.specs.Inner.Feeding.{SaysFed};
 
 use crate::asking::{AskFault, PIECE, read_head, read_piece, read_rest, send_request};
 use ats_base::{Bytes, Link};

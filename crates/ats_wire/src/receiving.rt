@@ -1,7 +1,7 @@
 //! Fills a buffer from a link.
 
 ghost use Rattle.std.specs.Prelude.{◌<◌, ℕ, slice_index};
-ghost use Rattle.ats_wire.specs.Moving.{Fills};
+ghost use Rattle.ats_wire.specs.Inner.Moving.{Fills};
 
 use ats_base::Link;
 

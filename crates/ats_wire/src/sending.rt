@@ -4,7 +4,8 @@ ghost use Rattle.std.specs.Prelude.{◌≡◌, ◌≤◌, ◌+◌, ◌^◌, ◌�
 ghost use Rattle.std.specs.Int.{to_be_bytes, w32};
 ghost use Rattle.ats_wire.specs.Requests.{framed};
 ghost use Rattle.ats_wire.specs.Replies.{IsShort, reply_bytes};
-ghost use Rattle.ats_wire.specs.Moving.{Moves, IsCutOff};
+ghost use Rattle.ats_wire.specs.Moving.{Moves};
+ghost use Rattle.ats_wire.specs.Inner.Moving.{IsCutOff};
 
 use crate::reply::Reply;
 use crate::room::MAX_FRAME;

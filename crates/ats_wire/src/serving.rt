@@ -4,7 +4,8 @@ ghost use Rattle.std.specs.Prelude.{◌≡◌, ◌≤◌, ◌<◌, ◌^◌, ◌�
 ghost use Rattle.ats_wire.specs.Requests.{Question, framed};
 ghost use Rattle.ats_wire.specs.Replies.{Answers, IsShort, reply_bytes};
 ghost use Rattle.ats_wire.specs.Moving.{Moves};
-ghost use Rattle.ats_wire.specs.Connections.{IsFrameLength, is_fault, EndsReading, IsReplied, IsCutReply, IsServed};
+ghost use Rattle.ats_wire.specs.Connections.{IsFrameLength, is_fault, EndsReading, IsServed};
+ghost use Rattle.ats_wire.specs.Inner.Connections.{IsReplied, IsCutReply};
 ghost use Rattle.ats_wire.specs.declared.reply.Reply.{Reply};
 
 use crate::receiving::{Filling, fill};

@@ -10,7 +10,7 @@ use Rattle.ats_proof.specs.Value.{Proof}
 use Rattle.ats_audit.specs.declared.auditing.Verdict.{Verdict}
 use Rattle.ats_audit.specs.declared.auditing.Verdict.TheVariants.{Right}
 use Rattle.ats_honest.specs.Honest.{length_of}
-use Rattle.ats_console.specs.Making.{MakingStop}
+use Rattle.ats_console.specs.Inner.Making.{MakingStop}
 use Rattle.ats_console.specs.declared.stops.Stop.{Stop}
 use Rattle.ats_console.specs.declared.stops.Stop.TheVariants.{Memory}
 use Rattle.ats_auditors.specs.declared.trials.Tally.{Tally}

@@ -2,7 +2,8 @@
 use Rattle.std.specs.Prelude.{◌≡◌, List, ℕ, false}
 use Rattle.std.specs.Str.{bytes_eq}
 use Rattle.ats_commit.specs.Archive.{Archive}
-use Rattle.ats_commit.specs.Root.{header_string, own_header_string}
+use Rattle.ats_commit.specs.Root.{header_string}
+use Rattle.ats_commit.specs.Inner.Root.{own_header_string}
 use Rattle.ats_tree.specs.Differences.{Difference}
 use Rattle.ats_tree.specs.declared.clashing.Clash.{Clash}
 use Rattle.ats_inclusion.specs.Strings.{TextPlace, header_place, in_texts}

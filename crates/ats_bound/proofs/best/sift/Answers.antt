@@ -1,6 +1,6 @@
 use Rattle.std.proofs.Common.{◌≡◌, ◌+◌, ◌-◌, ℕ, subst, sym, arith}
 use Rattle.std.proofs.lemmas.List.Sorted.{IsPermutation-trans}
-use Rattle.ats_bound.specs.Best.{AscendsBut}
+use Rattle.ats_bound.specs.Inner.Best.{AscendsBut}
 use Rattle.ats_bound.proofs.Kept.{sifted, sifted_end}
 use Rattle.ats_bound.proofs.best.sift.Goals as goal
 

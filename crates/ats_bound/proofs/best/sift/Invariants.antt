@@ -1,6 +1,6 @@
 use Rattle.std.proofs.Common.{◌≡◌, ◌+◌, ◌<◌, ℕ, length}
 use Rattle.std.specs.List.Sorted.{IsPermutation}
-use Rattle.ats_bound.specs.Best.{AscendsBut}
+use Rattle.ats_bound.specs.Inner.Best.{AscendsBut}
 use Rattle.ats_bound.proofs.best.sift.Given as goal
 
 abbrev pub invariant-loop-next : goal.invariant-loop-next

@@ -5,7 +5,7 @@ use Rattle.ats_bound.specs.declared.bracket.Bracket.{Bracket}
 use Rattle.ats_bound.specs.declared.known.Met.{Met}
 use Rattle.ats_bound.specs.Cut.{ShownLane}
 use Rattle.ats_bound.specs.Front.{shown_on}
-use Rattle.ats_bound.specs.Placed.{doc_cmp}
+use Rattle.ats_bound.specs.Inner.Placed.{doc_cmp}
 use Rattle.ats_bound.specs.Schedule.{AreBracketsOf}
 use Rattle.ats_bound.proofs.KnownBrackets.{brackets_of, sorted_are_brackets}
 use Rattle.ats_bound.proofs.bounds.brackets.Goals as goal

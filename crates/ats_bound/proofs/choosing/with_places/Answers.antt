@@ -4,7 +4,7 @@ use Rattle.std.proofs.lemmas.List.{take_more}
 use Rattle.std.proofs.lemmas.List.Elements.{All-push}
 use Rattle.ats_bound.specs.declared.bracket.Bracket.{Bracket}
 use Rattle.ats_bound.specs.declared.choosing.Placed.{Placed}
-use Rattle.ats_bound.specs.Placed.{IsPlaced}
+use Rattle.ats_bound.specs.Inner.Placed.{IsPlaced}
 use Rattle.ats_bound.proofs.Order.{few_documents, places_more}
 use Rattle.ats_bound.proofs.choosing.with_places.Goals as goal
 

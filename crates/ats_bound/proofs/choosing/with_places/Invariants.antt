@@ -1,6 +1,6 @@
 use Rattle.std.proofs.Common.{◌≡◌, ◌<◌, ◌^◌, map, take}
 use Rattle.std.specs.List.{All, range_with_len}
-use Rattle.ats_bound.specs.Placed.{IsPlaced}
+use Rattle.ats_bound.specs.Inner.Placed.{IsPlaced}
 use Rattle.ats_bound.proofs.choosing.with_places.Given as goal
 
 abbrev pub invariant-loop-place : goal.invariant-loop-place

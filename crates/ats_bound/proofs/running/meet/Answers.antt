@@ -3,7 +3,7 @@ use Rattle.std.specs.List.Sorted.{IsPermutation}
 use Rattle.std.proofs.lemmas.List.{get_or-map, length-map, map-append, map-set}
 use Rattle.std.proofs.lemmas.List.Sorted.{IsPermutation-sym, IsPermutation-to_front}
 use Rattle.ats_bound.specs.declared.known.Met.{Met}
-use Rattle.ats_bound.specs.Known.{lows}
+use Rattle.ats_bound.specs.Inner.Known.{lows}
 use Rattle.ats_bound.proofs.running.meet.Goals as goal
 
 pub returns-in-Some-clause-best : goal.returns-in-Some-clause-best

@@ -1,6 +1,6 @@
 use Rattle.std.proofs.Common.{◌≡◌, ℕ, List, length, refl, ap, subst, ◌∙◌, arith}
 use Rattle.std.proofs.lemmas.List.{length-map}
-use Rattle.ats_bound.specs.Known.{AreKnown}
+use Rattle.ats_bound.specs.Inner.Known.{AreKnown}
 use Rattle.ats_bound.specs.Schedule.{WholeLane, shown, whole_lane, whole_lanes}
 use Rattle.ats_bound.proofs.KnownSteps.{begun_all, begun_cut, begun_none, first_known, first_room}
 use Rattle.ats_bound.proofs.Shown.{no_lane, whole_at}

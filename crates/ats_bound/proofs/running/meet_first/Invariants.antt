@@ -1,6 +1,6 @@
 use Rattle.std.proofs.Common.{◌≡◌, length}
-use Rattle.ats_bound.specs.Best.{AreBest}
-use Rattle.ats_bound.specs.Known.{AreKnown, lows}
+use Rattle.ats_bound.specs.Inner.Best.{AreBest}
+use Rattle.ats_bound.specs.Inner.Known.{AreKnown, lows}
 use Rattle.ats_bound.specs.Schedule.{shown, whole_lanes}
 use Rattle.ats_bound.proofs.KnownSteps.{begun_cut}
 use Rattle.ats_bound.proofs.running.meet_first.Given as goal

@@ -1,6 +1,6 @@
 use Rattle.std.proofs.Common.{◌≡◌, map}
 use Rattle.std.specs.Map.Iter.{deref_pair}
-use Rattle.ats_bound.specs.Scored.{exact_brackets}
+use Rattle.ats_bound.specs.Inner.Scored.{exact_brackets}
 use Rattle.ats_bound.proofs.scored.brackets.Given as goal
 
 abbrev pub invariant-loop-doc : goal.invariant-loop-doc

@@ -4,7 +4,8 @@ use Rattle.std.specs.List.{list_any}
 use Rattle.std.specs.Option.{is_some}
 use Rattle.ats_bound.specs.Cut.{ShownLane, names}
 use Rattle.ats_bound.specs.Schedule.{WholeLane, first_cut, shown, whole_lane, whole_lanes}
-use Rattle.ats_bound.specs.Scored.{first_document, score_in}
+use Rattle.ats_bound.specs.Scored.{first_document}
+use Rattle.ats_bound.specs.Inner.Scored.{score_in}
 use Rattle.ats_bound.proofs.Exactly.{first_apart, first_given, first_more, shown_first_size}
 use Rattle.ats_bound.proofs.Shown.{no_lane, whole_at}
 use Rattle.ats_bound.proofs.scored.first_met.Goals as goal

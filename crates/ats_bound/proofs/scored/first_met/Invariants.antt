@@ -3,10 +3,11 @@ use Rattle.std.specs.Option.{is_some}
 use Rattle.std.specs.List.{All, list_any}
 use Rattle.std.specs.List.Sorted.{IsStrictlySortedBy}
 use Rattle.std.specs.Map.{keys_of, values_of}
-use Rattle.ats_bound.specs.Best.{AreBest}
+use Rattle.ats_bound.specs.Inner.Best.{AreBest}
 use Rattle.ats_bound.specs.Cut.{names}
 use Rattle.ats_bound.specs.Schedule.{first_cut, shown, whole_lanes}
-use Rattle.ats_bound.specs.Scored.{AreFirstScores, score_in}
+use Rattle.ats_bound.specs.Scored.{AreFirstScores}
+use Rattle.ats_bound.specs.Inner.Scored.{score_in}
 use Rattle.ats_bound.proofs.scored.first_met.Given as goal
 
 -- the scores of the first lanes' documents

@@ -1,7 +1,7 @@
 use Rattle.std.proofs.Common.{◌≡◌, ℕ, List, false, sym, ◌∙◌}
 use Rattle.std.specs.Option.{is_some}
 use Rattle.std.specs.Map.{values_of}
-use Rattle.ats_bound.specs.Scored.{score_in}
+use Rattle.ats_bound.specs.Inner.Scored.{score_in}
 use Rattle.ats_bound.proofs.Exactly.{inserted_keeps, inserted_values}
 use Rattle.ats_bound.proofs.scored.meet.Goals as goal
 

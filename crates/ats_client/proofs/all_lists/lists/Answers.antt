@@ -5,13 +5,13 @@ use Rattle.ats_bound.specs.Work.{Marked, zero_mark}
 use Rattle.ats_proof.specs.Ranges.{IsPrefixInRange}
 use Rattle.ats_proof.specs.Value.{ShownEntry, Prefix, present_in, items_of_prefix}
 use Rattle.ats_proof.specs.declared.dict.DictView.{DictView}
-use Rattle.ats_client.specs.SeenLists.{prefix_of, prefixes_left, presented_of}
-use Rattle.ats_client.specs.Seen.{entries_left}
+use Rattle.ats_client.specs.Inner.SeenLists.{prefix_of, prefixes_left, presented_of}
+use Rattle.ats_client.specs.Inner.Seen.{entries_left}
 use Rattle.ats_dict.specs.declared.header.Header.{Header}
 use Rattle.ats_client.specs.declared.kept_terms.PresentTerm.{PresentTerm}
 use Rattle.ats_client.specs.Presented.{Presented}
-use Rattle.ats_client.specs.KeptTerms.{kept_term}
-use Rattle.ats_client.specs.Noting.{Note, AreNotes, index_lane, lane_notes, notes_of}
+use Rattle.ats_client.specs.Inner.KeptTerms.{kept_term}
+use Rattle.ats_client.specs.Inner.Noting.{Note, AreNotes, index_lane, lane_notes, notes_of}
 use Rattle.ats_client.specs.Groups.{slot_at}
 use Rattle.ats_client.proofs.Counts.{sum_taken}
 use Rattle.ats_client.proofs.Rising.{before_first, before_next}

@@ -2,8 +2,8 @@ use Rattle.std.proofs.Common.{◌≡◌, ◌+◌, ◌*◌, ◌≤◌, length}
 use Rattle.std.specs.List.{All, sum_by}
 use Rattle.ats_proof.specs.Ranges.{IsPrefixInRange}
 use Rattle.ats_proof.specs.Value.{items_of_prefix}
-use Rattle.ats_client.specs.SeenLists.{prefixes_left}
-use Rattle.ats_client.specs.Seen.{entries_left}
+use Rattle.ats_client.specs.Inner.SeenLists.{prefixes_left}
+use Rattle.ats_client.specs.Inner.Seen.{entries_left}
 use Rattle.ats_client.proofs.Rising.{IsBefore}
 use Rattle.ats_client.proofs.Passing.{IsPassed}
 use Rattle.ats_client.proofs.all_lists.lists.Given as goal

@@ -10,7 +10,7 @@ use Rattle.ats_proof.specs.Value.{Proof}
 use Rattle.ats_proof.proofs.Public.{number_read}
 use Rattle.ats_client.specs.Bracketing.{bounds_of}
 use Rattle.ats_client.proofs.Bracketing.{own_doc}
-use Rattle.ats_client.specs.Bounds.{upper}
+use Rattle.ats_client.specs.Inner.Bounds.{upper}
 use Rattle.ats_client.specs.Groups.{met_at}
 use Rattle.ats_client.specs.Presented.{lanes_of}
 use Rattle.ats_client.specs.Rows.{IsLeft, row_of}

@@ -10,7 +10,7 @@ use Rattle.ats_proof.specs.SeenDocs.{ids_of, doc_leaves_of, sections_of, section
 use Rattle.ats_proof.specs.Value.{TermsSection}
 use Rattle.ats_client.specs.Documents.{MetDocument, documents_from, IsTermsTree}
 use Rattle.ats_client.specs.Sections.{difference_of}
-use Rattle.ats_client.specs.SeenTerms.{document_of}
+use Rattle.ats_client.specs.Inner.SeenTerms.{document_of}
 use Rattle.ats_client.specs.Strings.{terms_strings}
 use Rattle.ats_client.proofs.TermsLeft.{at_place}
 use Rattle.ats_client.proofs.Sections.{found_here, not_here, later_all}

@@ -6,10 +6,10 @@ use Rattle.ats_commit.specs.Ours.{ours}
 use Rattle.ats_proof.specs.Ranges.{IsPrefixInRange}
 use Rattle.ats_proof.specs.Value.{Prefix, Proof, present_in}
 use Rattle.ats_client.specs.Groups.{IsListRight}
-use Rattle.ats_client.specs.SeenLists.{prefix_of, prefixes_left, presented_of}
+use Rattle.ats_client.specs.Inner.SeenLists.{prefix_of, prefixes_left, presented_of}
 use Rattle.ats_client.specs.Presented.{Presented, presented, presented_from}
 use Rattle.ats_client.specs.Sections.{difference_of}
-use Rattle.ats_client.specs.Seen.{entries_left}
+use Rattle.ats_client.specs.Inner.Seen.{entries_left}
 use Rattle.ats_client.specs.Strings.{list_strings}
 use Rattle.ats_client.proofs.Sections.{found_here, not_here}
 use Rattle.ats_client.proofs.clashing.lists.Goals as goal

@@ -5,9 +5,9 @@ use Rattle.ats_commit.specs.Ours.{ours}
 use Rattle.ats_proof.specs.Ranges.{IsPrefixInRange}
 use Rattle.ats_proof.specs.Value.{present_in}
 use Rattle.ats_client.specs.Groups.{IsListRight}
-use Rattle.ats_client.specs.SeenLists.{prefixes_left}
+use Rattle.ats_client.specs.Inner.SeenLists.{prefixes_left}
 use Rattle.ats_client.specs.Presented.{presented_from, presented}
-use Rattle.ats_client.specs.Seen.{entries_left}
+use Rattle.ats_client.specs.Inner.Seen.{entries_left}
 use Rattle.ats_client.specs.Strings.{list_strings}
 use Rattle.ats_client.proofs.clashing.lists.Given as goal
 

@@ -7,8 +7,8 @@ use Rattle.ats_client.specs.declared.kept_terms.PresentTerm.{PresentTerm}
 use Rattle.ats_client.specs.Bracketing.{impact_shown}
 use Rattle.ats_client.specs.Documents.{MetDocument, IsTermSlotRight, document_rules}
 use Rattle.ats_base.specs.Rules.{IsFirstFault}
-use Rattle.ats_client.specs.KeptTerms.{numbers_of, bare_lanes}
-use Rattle.ats_client.specs.SeenTerms.{terms_left, document_of}
+use Rattle.ats_client.specs.Inner.KeptTerms.{numbers_of, bare_lanes}
+use Rattle.ats_client.specs.Inner.SeenTerms.{terms_left, document_of}
 use Rattle.ats_client.proofs.Faults.{passed_on}
 use Rattle.ats_client.proofs.Looked.{looked_more, number_right, slot_fails}
 use Rattle.ats_client.proofs.TermsLeft.{at_place}

@@ -3,8 +3,8 @@ use Rattle.ats_bound.specs.Lookup.{looked_score, looked_score_from}
 use Rattle.ats_proof.specs.SeenDocs.{section_of}
 use Rattle.ats_client.specs.Bracketing.{impact_shown}
 use Rattle.ats_client.specs.Documents.{IsTermSlotRight}
-use Rattle.ats_client.specs.KeptTerms.{numbers_of, bare_lanes}
-use Rattle.ats_client.specs.SeenTerms.{terms_left, document_of}
+use Rattle.ats_client.specs.Inner.KeptTerms.{numbers_of, bare_lanes}
+use Rattle.ats_client.specs.Inner.SeenTerms.{terms_left, document_of}
 use Rattle.ats_client.proofs.Rising.{IsBefore}
 use Rattle.ats_client.proofs.document.document.Given as goal
 

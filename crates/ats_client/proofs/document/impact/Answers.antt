@@ -10,7 +10,7 @@ use Rattle.ats_client.specs.declared.term.Term.{Term}
 use Rattle.ats_client.specs.Bracketing.{impact_shown}
 use Rattle.ats_client.specs.Documents.{term_shown}
 use Rattle.ats_client.specs.Groups.{slot_at}
-use Rattle.ats_client.specs.SeenTerms.{terms_left, term_of}
+use Rattle.ats_client.specs.Inner.SeenTerms.{terms_left, term_of}
 use Rattle.ats_client.proofs.Leaves.{present_leaf}
 use Rattle.ats_client.proofs.Rising.{index_is}
 use Rattle.ats_client.proofs.Slotted.{test_right}

@@ -9,9 +9,9 @@ use Rattle.ats_client.specs.declared.kept_terms.PresentTerm.{PresentTerm}
 use Rattle.ats_refusal.specs.declared.proof.Refusal.{Refusal}
 use Rattle.ats_client.specs.Bracketing.{impact_shown}
 use Rattle.ats_client.specs.Documents.{present_numbers, IsDocumentRight, document_rules, IsDocumentsFault}
-use Rattle.ats_client.specs.KeptTerms.{numbers_of, bare_lanes}
+use Rattle.ats_client.specs.Inner.KeptTerms.{numbers_of, bare_lanes}
 use Rattle.ats_base.specs.Rules.{IsFirstFault}
-use Rattle.ats_client.specs.SeenTerms.{document_of}
+use Rattle.ats_client.specs.Inner.SeenTerms.{document_of}
 use Rattle.ats_client.proofs.Counts.{taken, sum_taken, section_items}
 use Rattle.ats_client.proofs.Faults.{passed_on}
 use Rattle.ats_client.proofs.PresentNumbers.{kept_numbers, kept_count, kept_within}

@@ -4,8 +4,8 @@ use Rattle.std.proofs.lemmas.Bool.{cases_eq}
 use Rattle.ats_postings.specs.declared.entry.Entry.{Entry}
 use Rattle.ats_bound.specs.Work.{Marked, mark_at}
 use Rattle.ats_client.specs.Groups.{indexes_of}
-use Rattle.ats_client.specs.SeenLists.{prefix_of}
-use Rattle.ats_client.specs.Noting.{Note, AreNotes}
+use Rattle.ats_client.specs.Inner.SeenLists.{prefix_of}
+use Rattle.ats_client.specs.Inner.Noting.{Note, AreNotes}
 use Rattle.ats_client.proofs.Named.{out_at, again_at, names_more}
 use Rattle.ats_client.proofs.Marks.{index_at, notes_next, named_before, not_named, room_for}
 use Rattle.ats_client.proofs.marking.entries.Goals as goal

@@ -1,8 +1,8 @@
 use Rattle.std.proofs.Common.{◌≡◌, ◌+◌, ◌*◌, ◌≤◌, ◌++◌, List, [], map, take}
 use Rattle.ats_client.specs.Indexes.{AreNames}
 use Rattle.ats_client.specs.Groups.{indexes_of}
-use Rattle.ats_client.specs.SeenLists.{prefix_of}
-use Rattle.ats_client.specs.Noting.{Note, note, AreNotes}
+use Rattle.ats_client.specs.Inner.SeenLists.{prefix_of}
+use Rattle.ats_client.specs.Inner.Noting.{Note, note, AreNotes}
 use Rattle.ats_client.proofs.marking.entries.Given as goal
 
 abbrev pub invariant-loop-i : goal.invariant-loop-i

@@ -3,8 +3,8 @@ use Rattle.std.proofs.lemmas.Bool.{not-true, not-false}
 use Rattle.std.proofs.lemmas.Option.{slice_get-get_or}
 use Rattle.ats_commit.specs.Ours.{asked_term}
 use Rattle.ats_proof.specs.Value.{ShownEntry, Prefix}
-use Rattle.ats_client.specs.Seen.{shown_of}
-use Rattle.ats_client.specs.SeenLists.{prefix_of, prefixes_left}
+use Rattle.ats_client.specs.Inner.Seen.{shown_of}
+use Rattle.ats_client.specs.Inner.SeenLists.{prefix_of, prefixes_left}
 use Rattle.ats_client.specs.Slots.{entry_shown}
 use Rattle.ats_client.proofs.Counts.{taken}
 use Rattle.ats_client.proofs.Leaves.{present_leaf}

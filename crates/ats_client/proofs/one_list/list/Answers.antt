@@ -4,8 +4,8 @@ use Rattle.ats_bound.specs.Cut.{rest}
 use Rattle.ats_client.specs.Presented.{Presented}
 use Rattle.ats_client.specs.Indexes.{AreNames}
 use Rattle.ats_client.specs.Groups.{indexes_of}
-use Rattle.ats_client.specs.SeenLists.{prefix_of, presented_of}
-use Rattle.ats_client.specs.Noting.{Note, note, AreNotes, index_lane}
+use Rattle.ats_client.specs.Inner.SeenLists.{prefix_of, presented_of}
+use Rattle.ats_client.specs.Inner.Noting.{Note, note, AreNotes, index_lane}
 use Rattle.ats_client.proofs.ListNotes.{names_inside, list_noted}
 use Rattle.ats_client.proofs.one_list.list.Goals as goal
 

@@ -2,7 +2,7 @@ use Rattle.std.proofs.Common.{◌∙◌, List, length, refl, sym, ap, arith}
 use Rattle.std.specs.List.{range_with_len}
 use Rattle.ats_tree.specs.Shown.{Shown, positions_of}
 use Rattle.ats_postings.specs.declared.entry.Entry.{Entry}
-use Rattle.ats_client.specs.SeenLists.{prefix_of}
+use Rattle.ats_client.specs.Inner.SeenLists.{prefix_of}
 use Rattle.ats_client.proofs.Counts.{list-from, shown_list_size}
 use Rattle.ats_client.proofs.one_list.rooted.Goals as goal
 

@@ -2,7 +2,7 @@ use Rattle.std.proofs.Common.{◌≡◌, ◌<◌, ◌≤◌, ℕ, List, length, 
 use Rattle.std.proofs.lemmas.Option.{get_or_from_slice_get}
 use Rattle.ats_bound.specs.declared.work.Mark.{Mark}
 use Rattle.ats_bound.specs.Work.{mark_at}
-use Rattle.ats_client.specs.Bounds.{upper, row_mark, lower_before}
+use Rattle.ats_client.specs.Inner.Bounds.{upper, row_mark, lower_before}
 use Rattle.ats_client.proofs.settled.last_lower.Goals as goal
 
 pub get-mark-requires-clause-inside : goal.get-mark-requires-clause-inside

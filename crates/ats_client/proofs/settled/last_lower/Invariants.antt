@@ -1,5 +1,5 @@
 use Rattle.std.proofs.Common.{◌≡◌, ◌+◌, ◌*◌}
-use Rattle.ats_client.specs.Bounds.{lower_before, AreFalling}
+use Rattle.ats_client.specs.Inner.Bounds.{lower_before, AreFalling}
 use Rattle.ats_client.proofs.settled.last_lower.Given as goal
 
 abbrev pub invariant-loop-k : goal.invariant-loop-k

@@ -1,6 +1,6 @@
 use Rattle.std.proofs.Common.{◌≡◌, ◌+◌, ◌<◌, ◌≤◌, ℕ, false}
 use Rattle.ats_bound.specs.Work.{mark_at}
-use Rattle.ats_client.specs.Bounds.{upper}
+use Rattle.ats_client.specs.Inner.Bounds.{upper}
 use Rattle.ats_client.proofs.settled.others_are_within.Given as goal
 
 abbrev pub invariant-loop-i : goal.invariant-loop-i

@@ -3,7 +3,7 @@ use Rattle.std.proofs.lemmas.Bool.{false≢true}
 use Rattle.std.proofs.lemmas.Bool.Decides.{nat_tests}
 use Rattle.ats_bound.specs.declared.work.Mark.{Mark}
 use Rattle.ats_proof.specs.Value.{Proof}
-use Rattle.ats_client.specs.Bounds.{lower_before, AreOthersWithin}
+use Rattle.ats_client.specs.Inner.Bounds.{lower_before, AreOthersWithin}
 use Rattle.ats_client.proofs.Bounding.{below, settles, says_whole, says_falling, says_unmet, says_others}
 use Rattle.ats_client.proofs.settled.settled.Goals as goal
 

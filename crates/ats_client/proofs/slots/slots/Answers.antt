@@ -2,7 +2,7 @@ use Rattle.std.proofs.Common.{◌<◌, ◌∙◌, List, [], length, ap, arith}
 use Rattle.ats_proof.specs.Value.{ShownEntry}
 use Rattle.ats_proof.specs.declared.dict.DictView.{DictView}
 use Rattle.ats_client.specs.Groups.{IsSlotRight}
-use Rattle.ats_client.specs.Seen.{entries_left}
+use Rattle.ats_client.specs.Inner.Seen.{entries_left}
 use Rattle.ats_client.proofs.Rising.{before_first, index_is, before_next}
 use Rattle.ats_client.proofs.Slotted.{slot_right, slots_more}
 use Rattle.ats_client.proofs.slots.slots.Goals as goal

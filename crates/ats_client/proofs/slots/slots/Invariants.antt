@@ -1,6 +1,6 @@
 use Rattle.std.proofs.Common.{◌≡◌, ◌+◌, ◌*◌, ◌<◌, ◌≤◌, ℕ, length}
 use Rattle.ats_client.specs.Groups.{IsSlotRight}
-use Rattle.ats_client.specs.Seen.{entries_left}
+use Rattle.ats_client.specs.Inner.Seen.{entries_left}
 use Rattle.ats_client.proofs.Rising.{IsBefore}
 use Rattle.ats_client.proofs.slots.slots.Given as goal
 

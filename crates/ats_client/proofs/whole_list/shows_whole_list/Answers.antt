@@ -4,9 +4,9 @@ use Rattle.std.proofs.lemmas.Bool.{cases_Bool, eq-eqb, eqb-true}
 use Rattle.ats_proof.specs.Value.{ShownEntry, Prefix}
 use Rattle.ats_proof.specs.declared.dict.DictView.{DictView}
 use Rattle.ats_client.specs.Groups.{slot_at}
-use Rattle.ats_client.specs.SeenLists.{prefix_of, prefixes_left, presented_of}
+use Rattle.ats_client.specs.Inner.SeenLists.{prefix_of, prefixes_left, presented_of}
 use Rattle.ats_client.specs.Presented.{Presented, presented_from}
-use Rattle.ats_client.specs.Seen.{entries_left}
+use Rattle.ats_client.specs.Inner.Seen.{entries_left}
 use Rattle.ats_client.specs.WholeLists.{is_whole}
 use Rattle.ats_client.proofs.Rising.{before_first, before_next}
 use Rattle.ats_client.proofs.whole_list.shows_whole_list.Goals as goal

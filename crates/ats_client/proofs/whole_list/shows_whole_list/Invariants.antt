@@ -1,9 +1,9 @@
 use Rattle.std.proofs.Common.{◌≡◌, ◌+◌, ◌*◌, ◌≤◌, length, drop}
 use Rattle.std.specs.List.{list_any}
 use Rattle.ats_proof.specs.Value.{present_in}
-use Rattle.ats_client.specs.SeenLists.{prefixes_left}
+use Rattle.ats_client.specs.Inner.SeenLists.{prefixes_left}
 use Rattle.ats_client.specs.Presented.{presented_from}
-use Rattle.ats_client.specs.Seen.{entries_left}
+use Rattle.ats_client.specs.Inner.Seen.{entries_left}
 use Rattle.ats_client.specs.WholeLists.{is_whole, shows_whole}
 use Rattle.ats_client.proofs.Rising.{IsBefore}
 use Rattle.ats_client.proofs.whole_list.shows_whole_list.Given as goal

@@ -4,7 +4,7 @@ use Rattle.std.proofs.lemmas.List.Elements.{All-head, All-tail}
 use Rattle.ats_proof.specs.SeenDocs.{sections_of}
 use Rattle.ats_proof.specs.Value.{TermsSection}
 use Rattle.ats_client.specs.Documents.{MetDocument}
-use Rattle.ats_client.specs.SeenTerms.{document_of}
+use Rattle.ats_client.specs.Inner.SeenTerms.{document_of}
 use Rattle.ats_conjunction.specs.Documents.{with_all}
 use Rattle.ats_conjunction.specs.Inner.Met.{documents_left}
 use Rattle.ats_conjunction.proofs.Passing.{IsNext, takes, keeps, passes_over}

@@ -1,6 +1,6 @@
 use Rattle.std.proofs.Common.{◌≡◌, ◌≤◌, ◌<◌, ◌-◌, Bool, false, subst, sym, ap₂, arith, rules}
 use Rattle.ats_proof.specs.Seen.{digests_of}
-use Rattle.ats_consistency.specs.Paired.{ArePaired}
+use Rattle.ats_consistency.specs.Inner.Paired.{ArePaired}
 use Rattle.ats_consistency.specs.Shape.{turns, need}
 use Rattle.ats_consistency.proofs.Leads.{turns-end}
 use Rattle.ats_consistency.proofs.PairLemmas.{cut-left, cut-right, length-left, length-right, need-left, need-right, one-left, paired-known, paired-end, paired-left, paired-right}

@@ -1,5 +1,5 @@
 use Rattle.std.proofs.lemmas.Option.{MatchOption-at_none}
-use Rattle.ats_commit.specs.Root.{HasOwnHeader}
+use Rattle.ats_commit.specs.Inner.Root.{HasOwnHeader}
 use Rattle.ats_fetch.specs.Inner.Clashes.{IsHeaderClash}
 use Rattle.ats_fetch.proofs.Clashing.{below_found}
 use Rattle.ats_fetch.proofs.auditing.text_clash.Goals as goal

@@ -2,7 +2,7 @@ use Rattle.std.proofs.Common.{◌≡◌, ◌∙◌, Some, None, sym, ap}
 use Rattle.std.specs.Option.{option_map}
 use Rattle.ats_consistency.specs.Strings.{extract}
 use Rattle.ats_consistency.proofs.Public.{growth_range}
-use Rattle.ats_growth.specs.Found.{difference_of}
+use Rattle.ats_growth.specs.Inner.Found.{difference_of}
 use Rattle.ats_growth.proofs.Finding.{found-grown}
 use Rattle.ats_growth.proofs.Verdicts.{told-strings}
 use Rattle.ats_growth.proofs.auditing.audit_growth.Goals as goal

@@ -1,6 +1,6 @@
 use Rattle.std.proofs.Common.{◌∙◌, Some, sym, ap}
 use Rattle.std.specs.Option.{option_map}
-use Rattle.ats_growth.specs.Found.{difference_in}
+use Rattle.ats_growth.specs.Inner.Found.{difference_in}
 use Rattle.ats_growth.proofs.Finding.{own-header, past-headers, extracts}
 use Rattle.ats_growth.proofs.auditing.first_collision.Goals as goal
 

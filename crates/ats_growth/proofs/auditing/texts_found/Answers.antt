@@ -1,6 +1,6 @@
 use Rattle.std.proofs.Common.{◌∙◌, sym, ap}
 use Rattle.std.specs.Option.{option_map}
-use Rattle.ats_growth.specs.Unlike.{strings_of, in_part}
+use Rattle.ats_growth.specs.Inner.Unlike.{strings_of, in_part}
 use Rattle.ats_growth.proofs.Finding.{found-new, found-old, found-shared}
 use Rattle.ats_growth.proofs.auditing.texts_found.Goals as goal
 

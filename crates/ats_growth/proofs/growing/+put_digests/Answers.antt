@@ -2,7 +2,7 @@ use Rattle.std.proofs.Common.{◌≤◌, ◌<◌, ◌∙◌, ◌++◌, ℕ, Bool
 use Rattle.ats_tree.specs.Tree.{tree_of}
 use Rattle.ats_consistency.specs.Shape.{turns}
 use Rattle.ats_consistency.proofs.Public.{on-ok}
-use Rattle.ats_growth.specs.Honest.{digest_bytes}
+use Rattle.ats_growth.specs.Inner.Honest.{digest_bytes}
 use Rattle.ats_growth.proofs.DigestBytes.{put-known, put-end, put-left, put-right}
 use Rattle.ats_growth.proofs.Made.{joined_2}
 use Rattle.ats_growth.proofs.growing.+put_digests.Goals as goal

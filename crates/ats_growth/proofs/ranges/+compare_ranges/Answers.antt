@@ -1,7 +1,7 @@
 use Rattle.std.proofs.Common.{◌≤◌, ◌<◌, ◌*◌, ap, arith}
 use Rattle.std.specs.Option.{option_map}
 use Rattle.ats_consistency.specs.Strings.{part_of}
-use Rattle.ats_growth.specs.Unlike.{strings_of}
+use Rattle.ats_growth.specs.Inner.Unlike.{strings_of}
 use Rattle.ats_tree.proofs.Public.{part-tree-cut}
 use Rattle.ats_consistency.proofs.Public.{turns-end, cut-left, cut-right}
 use Rattle.ats_growth.proofs.Ranging.{ranges-end, ranges-left, ranges-some, ranges-none}

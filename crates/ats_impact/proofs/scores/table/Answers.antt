@@ -1,6 +1,6 @@
 use Rattle.std.proofs.Common.{[], ap, ◌∙◌, arith}
 use Rattle.std.proofs.lemmas.List.{get_or_read}
-use Rattle.ats_impact.specs.Score.{counts}
+use Rattle.ats_impact.specs.Inner.Score.{counts}
 use Rattle.ats_impact.proofs.Occurrences.{made_more}
 use Rattle.ats_impact.proofs.scores.table.Goals as goal
 

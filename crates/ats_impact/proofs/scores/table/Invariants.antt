@@ -1,5 +1,5 @@
 use Rattle.std.proofs.Common.{◌≡◌, map, take}
-use Rattle.ats_impact.specs.Score.{counts}
+use Rattle.ats_impact.specs.Inner.Score.{counts}
 use Rattle.ats_impact.proofs.scores.table.Given as goal
 
 -- the rows of the documents so far

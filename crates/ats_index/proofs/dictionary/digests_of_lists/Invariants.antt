@@ -1,5 +1,5 @@
 use Rattle.std.proofs.Common.{◌≡◌, take}
-use Rattle.ats_index.specs.Kept.{all_list_digests}
+use Rattle.ats_index.specs.Inner.Kept.{all_list_digests}
 use Rattle.ats_index.proofs.dictionary.digests_of_lists.Given as goal
 
 -- the lists so far have their digests

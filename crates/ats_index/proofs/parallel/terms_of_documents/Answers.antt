@@ -4,7 +4,7 @@ use Rattle.std.proofs.lemmas.List.{length-drop, length-map}
 use Rattle.ats_terms.specs.Query.{counted}
 use Rattle.ats_terms.specs.Terms.{terms}
 use Rattle.ats_doctree.specs.Impacts.{text_terms}
-use Rattle.ats_index.specs.Parts.{all_counts, all_terms}
+use Rattle.ats_index.specs.Inner.Parts.{all_counts, all_terms}
 use Rattle.ats_index.proofs.Whole.{next_inside, next_counts, next_left, next_terms}
 use Rattle.ats_index.proofs.parallel.terms_of_documents.Goals as goal
 

@@ -1,6 +1,6 @@
 use Rattle.std.proofs.Common.{◌≡◌, ◌≤◌, length, take, drop}
 use Rattle.std.specs.Vec.Iter.{into_iter_items}
-use Rattle.ats_index.specs.Parts.{all_counts, all_terms}
+use Rattle.ats_index.specs.Inner.Parts.{all_counts, all_terms}
 use Rattle.ats_index.proofs.parallel.terms_of_documents.Given as goal
 
 -- the terms of the documents so far, and the counted terms of those that are left

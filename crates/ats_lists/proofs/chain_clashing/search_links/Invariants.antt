@@ -3,7 +3,8 @@ use Rattle.std.specs.List.{range_with_len}
 use Rattle.std.specs.Option.{option_map, option_or}
 use Rattle.ats_tree.specs.Differences.{first_collision}
 use Rattle.ats_lists.specs.Chain.{chain_digest}
-use Rattle.ats_lists.specs.ChainClash.{list_difference_of, link_at}
+use Rattle.ats_lists.specs.ChainClash.{list_difference_of}
+use Rattle.ats_lists.specs.Inner.ChainClash.{link_at}
 use Rattle.ats_lists.proofs.chain_clashing.search_links.Given as goal
 
 abbrev pub invariant-loop-j : goal.invariant-loop-j

@@ -6,7 +6,8 @@ use Rattle.ats_tree.proofs.Public.{from-all, rises-from, All-from}
 use Rattle.ats_tree.specs.Shown.{Shown}
 use Rattle.ats_tree.specs.Part.{RisesFrom}
 use Rattle.ats_lists.specs.Blocks.{blocks_in}
-use Rattle.ats_lists.specs.ChainClash.{list_difference_of, tree_collision, IsFirstInTrees}
+use Rattle.ats_lists.specs.ChainClash.{list_difference_of}
+use Rattle.ats_lists.specs.Inner.ChainClash.{tree_collision, IsFirstInTrees}
 use Rattle.ats_lists.proofs.Fronts.{front-rises}
 use Rattle.ats_lists.proofs.BlockLemmas.{taken-none, next-root, IsNextRoot, all-roots}
 use Rattle.ats_lists.proofs.ChainClashes.{first-start, first-taken, first-none, first-kept, block-enough, block-collision}

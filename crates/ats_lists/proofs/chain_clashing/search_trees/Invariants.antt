@@ -3,7 +3,8 @@ use Rattle.std.specs.List.{range_with_len}
 use Rattle.std.specs.Option.{option_map}
 use Rattle.ats_tree.specs.Part.{shown_from}
 use Rattle.ats_lists.specs.ChainPrefix.{block_root}
-use Rattle.ats_lists.specs.ChainClash.{list_difference_of, IsFirstInTrees}
+use Rattle.ats_lists.specs.ChainClash.{list_difference_of}
+use Rattle.ats_lists.specs.Inner.ChainClash.{IsFirstInTrees}
 use Rattle.ats_lists.proofs.BlockLemmas.{taken}
 use Rattle.ats_lists.proofs.chain_clashing.search_trees.Given as goal
 

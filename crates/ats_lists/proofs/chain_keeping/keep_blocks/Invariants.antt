@@ -1,7 +1,7 @@
 use Rattle.std.proofs.Common.{◌≡◌, ℕ, ◌+◌, ◌*◌, ◌<◌, ◌≤◌, length, min}
 use Rattle.ats_lists.specs.Blocks.{blocks_in}
 use Rattle.ats_lists.specs.Chain.{chain_from}
-use Rattle.ats_lists.specs.KeptChain.{digests_in}
+use Rattle.ats_lists.specs.Inner.KeptChain.{digests_in}
 use Rattle.ats_lists.proofs.KeptChains.{block_digests}
 use Rattle.ats_lists.proofs.chain_keeping.keep_blocks.Given as goal
 

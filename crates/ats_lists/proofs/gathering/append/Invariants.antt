@@ -1,5 +1,5 @@
 use Rattle.std.proofs.Common.{◌≡◌, ◌++◌, map, take}
-use Rattle.ats_lists.specs.Gathered.{renumbered}
+use Rattle.ats_lists.specs.Inner.Gathered.{renumbered}
 use Rattle.ats_lists.proofs.gathering.append.Given as goal
 
 -- the other run's entries so far are appended

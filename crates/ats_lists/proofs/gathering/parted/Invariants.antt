@@ -1,5 +1,5 @@
 use Rattle.std.proofs.Common.{◌≡◌, ◌<◌, ℕ, [], length, get_or, take}
-use Rattle.ats_lists.specs.Gathered.{entries_under, term_of}
+use Rattle.ats_lists.specs.Inner.Gathered.{entries_under, term_of}
 use Rattle.ats_lists.proofs.gathering.parted.Given as goal
 
 -- the entries so far

@@ -1,5 +1,5 @@
 use Rattle.std.proofs.Common.{◌≡◌, ◌∙◌, ℕ, List, [], map}
-use Rattle.ats_lists.specs.Gathered.{renumbered}
+use Rattle.ats_lists.specs.Inner.Gathered.{renumbered}
 use Rattle.ats_lists.specs.declared.gathering.Logged.{Logged}
 use Rattle.ats_lists.proofs.LogLemmas.{no_log, log_joined, pairs_joined}
 use Rattle.ats_lists.proofs.gathering.placed.Goals as goal

@@ -1,5 +1,5 @@
 use Rattle.std.proofs.Common.{◌≡◌, length, subst, arith}
-use Rattle.ats_lists.specs.Gathered.{AreNewNumbers}
+use Rattle.ats_lists.specs.Inner.Gathered.{AreNewNumbers}
 use Rattle.ats_lists.proofs.LogLemmas.{one_number_more}
 use Rattle.ats_lists.proofs.gathering.renumber.Goals as goal
 

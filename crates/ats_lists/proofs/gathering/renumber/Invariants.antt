@@ -1,4 +1,4 @@
-use Rattle.ats_lists.specs.Gathered.{AreNewNumbers}
+use Rattle.ats_lists.specs.Inner.Gathered.{AreNewNumbers}
 use Rattle.ats_lists.proofs.gathering.renumber.Given as goal
 
 -- the other run's terms so far have their numbers

@@ -1,6 +1,6 @@
 use Rattle.std.proofs.Common.{◌<◌, ◌∙◌, List, map, sym, arith}
 use Rattle.std.proofs.lemmas.List.{ext_get_or, get_or-map, length-map}
-use Rattle.ats_lists.specs.Gathered.{renumbered}
+use Rattle.ats_lists.specs.Inner.Gathered.{renumbered}
 use Rattle.ats_lists.specs.declared.gathering.Logged.{Logged}
 use Rattle.ats_lists.proofs.gathering.replace_numbers.Goals as goal
 

@@ -1,5 +1,5 @@
 use Rattle.std.proofs.Common.{◌≡◌, ◌<◌, ◌≤◌, ℕ, length, get_or}
-use Rattle.ats_lists.specs.Gathered.{renumbered}
+use Rattle.ats_lists.specs.Inner.Gathered.{renumbered}
 use Rattle.ats_lists.specs.declared.gathering.Logged.{Logged}
 use Rattle.ats_lists.proofs.gathering.replace_numbers.Given as goal
 

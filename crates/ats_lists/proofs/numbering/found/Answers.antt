@@ -1,5 +1,5 @@
 use Rattle.std.proofs.Common.{◌≡◌, ◌⊎◌, ◌+◌, sym, subst}
-use Rattle.ats_lists.specs.Gathered.{IsSlotOf}
+use Rattle.ats_lists.specs.Inner.Gathered.{IsSlotOf}
 use Rattle.ats_lists.specs.declared.numbering.Slot.{Slot}
 use Rattle.ats_lists.proofs.numbering.found.Goals as goal
 

@@ -1,4 +1,4 @@
-use Rattle.ats_lists.specs.Gathered.{AreSlotsOf}
+use Rattle.ats_lists.specs.Inner.Gathered.{AreSlotsOf}
 use Rattle.ats_lists.proofs.numbering.make_room.Given as goal
 
 abbrev pub invariant-loop-number : goal.invariant-loop-number

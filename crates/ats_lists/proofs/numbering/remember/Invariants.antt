@@ -1,5 +1,5 @@
 use Rattle.std.proofs.Common.{◌≡◌, ◌⊎◌}
-use Rattle.ats_lists.specs.Gathered.{AreSlotsOf, IsSlotOf}
+use Rattle.ats_lists.specs.Inner.Gathered.{AreSlotsOf, IsSlotOf}
 use Rattle.ats_lists.proofs.numbering.remember.Given as goal
 
 -- what moves to the next slot is as a slot should be

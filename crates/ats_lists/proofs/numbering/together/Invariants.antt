@@ -3,7 +3,7 @@ use Rattle.std.specs.List.{All}
 use Rattle.std.specs.List.Sorted.{IsStrictlySortedBy}
 use Rattle.std.specs.Vec.Iter.{into_iter_items}
 use Rattle.ats_terms.specs.Query.{byte_cmp}
-use Rattle.ats_lists.specs.Gathered.{AreNumbered}
+use Rattle.ats_lists.specs.Inner.Gathered.{AreNumbered}
 use Rattle.ats_lists.proofs.NumberLemmas.{ArePlaced, Ascend, NoneBelow}
 use Rattle.ats_lists.proofs.numbering.together.Given as goal
 

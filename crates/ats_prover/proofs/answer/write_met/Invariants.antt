@@ -2,7 +2,7 @@ use Rattle.std.proofs.Common.{◌≡◌, ◌≤◌, ◌+◌, ◌*◌, ◌∷◌,
 use Rattle.std.specs.List.{flat_map}
 use Rattle.ats_proof.specs.Parts.{spelled}
 use Rattle.ats_proof.specs.Value.{id_fields}
-use Rattle.ats_prover.specs.Writing.{put}
+use Rattle.ats_prover.specs.Inner.Writing.{put}
 use Rattle.ats_prover.proofs.answer.write_met.Given as goal
 
 -- the ids so far follow their number

@@ -1,7 +1,7 @@
 use Rattle.std.proofs.Common.{subst, sym}
 use Rattle.std.proofs.lemmas.Result.{on_ok_weaker}
 use Rattle.ats_proof.specs.declared.record.Algorithm.{Algorithm}
-use Rattle.ats_prover.specs.Writing.{AreDocumentsWritten}
+use Rattle.ats_prover.specs.Inner.Writing.{AreDocumentsWritten}
 use Rattle.ats_prover.proofs.MetLeaves.{no_documents, written_documents}
 use Rattle.ats_prover.proofs.Putting.{started}
 use Rattle.ats_prover.proofs.documents.write_documents.Goals as goal

@@ -1,5 +1,5 @@
 use Rattle.std.proofs.Common.{◌<◌, ℕ, List, length, subst, arith, add-one, take_all}
-use Rattle.ats_prover.specs.Writing.{AreSectionsWritten, IsSectionWritten}
+use Rattle.ats_prover.specs.Inner.Writing.{AreSectionsWritten, IsSectionWritten}
 use Rattle.ats_prover.proofs.MetLeaves.{no_sections, sections_more}
 use Rattle.ats_prover.proofs.documents.write_sections.Goals as goal
 

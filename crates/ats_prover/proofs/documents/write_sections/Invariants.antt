@@ -1,5 +1,5 @@
 use Rattle.std.proofs.Common.{◌≤◌, ◌+◌, ◌*◌, ◌^◌, take}
-use Rattle.ats_prover.specs.Writing.{AreSectionsWritten}
+use Rattle.ats_prover.specs.Inner.Writing.{AreSectionsWritten}
 use Rattle.ats_prover.proofs.documents.write_sections.Given as goal
 
 -- the sections so far

@@ -8,7 +8,7 @@ use Rattle.ats_proof.specs.Written.{Written, after}
 use Rattle.ats_proof.specs.Parts.{counted, spelled}
 use Rattle.ats_proof.specs.Value.{digest_fields, doc_fields}
 use Rattle.ats_honest.specs.Documents.{document_leaf}
-use Rattle.ats_prover.specs.Writing.{put}
+use Rattle.ats_prover.specs.Inner.Writing.{put}
 use Rattle.ats_honest.proofs.Public.{documents_few, documents_each}
 use Rattle.ats_prover.proofs.KeptDigests.{kept_positions}
 use Rattle.ats_prover.proofs.Putting.{put_put, started}

@@ -6,7 +6,7 @@ use Rattle.ats_dict.specs.declared.spot.Spot.{Spot}
 use Rattle.ats_commit.specs.Trees.{dictionary_of}
 use Rattle.ats_bound.specs.Schedule.{AreWholeLanes, WholeLane}
 use Rattle.ats_honest.specs.Terms.{AreSpots}
-use Rattle.ats_honest.specs.Present.{standing}
+use Rattle.ats_honest.specs.Inner.Present.{standing}
 use Rattle.ats_honest.proofs.Public.{spot_each, standing_present}
 use Rattle.ats_prover.proofs.found.query_terms.Goals as goal
 

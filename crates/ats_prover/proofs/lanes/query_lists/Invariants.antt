@@ -1,7 +1,7 @@
 use Rattle.std.proofs.Common.{◌≡◌, map, take}
 use Rattle.ats_bound.specs.Schedule.{whole_lanes}
 use Rattle.ats_honest.specs.Lanes.{lanes_of}
-use Rattle.ats_prover.specs.Nodes.{list_digests}
+use Rattle.ats_prover.specs.Inner.Nodes.{list_digests}
 use Rattle.ats_prover.proofs.lanes.query_lists.Given as goal
 
 -- the lanes of the terms so far

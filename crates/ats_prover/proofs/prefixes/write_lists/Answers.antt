@@ -11,8 +11,8 @@ use Rattle.ats_bound.proofs.Public.{count_at}
 use Rattle.ats_proof.specs.Parts.{counted}
 use Rattle.ats_proof.specs.Value.{Prefix, id_fields, prefix_fields}
 use Rattle.ats_honest.specs.Honest.{prefixes}
-use Rattle.ats_prover.specs.Nodes.{list_digests}
-use Rattle.ats_prover.specs.Writing.{put}
+use Rattle.ats_prover.specs.Inner.Nodes.{list_digests}
+use Rattle.ats_prover.specs.Inner.Writing.{put}
 use Rattle.ats_prover.proofs.Fronts.{lent_at, prefix_more}
 use Rattle.ats_honest.proofs.Public.{prefix_each}
 use Rattle.ats_prover.proofs.prefixes.write_lists.Goals as goal

@@ -5,8 +5,8 @@ use Rattle.ats_bound.specs.Schedule.{whole_lanes}
 use Rattle.ats_proof.specs.Parts.{counted}
 use Rattle.ats_proof.specs.Value.{id_fields, prefix_fields}
 use Rattle.ats_honest.specs.Honest.{prefixes}
-use Rattle.ats_prover.specs.Nodes.{list_digests}
-use Rattle.ats_prover.specs.Writing.{put}
+use Rattle.ats_prover.specs.Inner.Nodes.{list_digests}
+use Rattle.ats_prover.specs.Inner.Writing.{put}
 use Rattle.ats_prover.proofs.prefixes.write_lists.Given as goal
 
 -- the prefixes so far follow the met ids

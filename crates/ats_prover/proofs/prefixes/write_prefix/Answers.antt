@@ -9,7 +9,7 @@ use Rattle.ats_proof.specs.Written.{Written}
 use Rattle.ats_proof.specs.Parts.{counted}
 use Rattle.ats_proof.specs.Value.{digest_fields, posting_fields}
 use Rattle.ats_honest.specs.Honest.{placed}
-use Rattle.ats_prover.specs.Writing.{put}
+use Rattle.ats_prover.specs.Inner.Writing.{put}
 use Rattle.ats_honest.proofs.Public.{small_impacts}
 use Rattle.ats_prover.proofs.Fronts.{kept_entries}
 use Rattle.ats_prover.proofs.Putting.{put_put}

@@ -12,8 +12,8 @@ use Rattle.ats_proof.specs.Parts.{counted}
 use Rattle.ats_proof.specs.Value.{documents_fields, id_fields, prefix_fields}
 use Rattle.ats_honest.specs.Honest.{AreMet, prefixes}
 use Rattle.ats_honest.specs.Lanes.{lane_of, lanes_of, present}
-use Rattle.ats_prover.specs.Nodes.{list_digests}
-use Rattle.ats_prover.specs.Writing.{AreDocumentsWritten, put}
+use Rattle.ats_prover.specs.Inner.Nodes.{list_digests}
+use Rattle.ats_prover.specs.Inner.Writing.{AreDocumentsWritten, put}
 use Rattle.ats_honest.proofs.Public.{lanes_have_lists, met_lists, met_low, rising_few, lists_below}
 use Rattle.ats_prover.proofs.Putting.{put_put, started}
 use Rattle.ats_prover.proofs.proving.write_cut.Goals as goal

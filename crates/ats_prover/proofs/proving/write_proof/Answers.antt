@@ -9,7 +9,7 @@ use Rattle.ats_proof.specs.declared.record.Algorithm.{Algorithm}
 use Rattle.ats_honest.specs.Lanes.{bounding, lane_of, lanes_of}
 use Rattle.ats_honest.specs.Honest.{AreMet, IsHonest, IsShownAt}
 use Rattle.ats_honest.proofs.Public.{brackets_met, honest_short}
-use Rattle.ats_prover.specs.Writing.{IsShownWith}
+use Rattle.ats_prover.specs.Inner.Writing.{IsShownWith}
 use Rattle.ats_prover.proofs.Asked.{written_as}
 use Rattle.ats_prover.proofs.proving.write_proof.Goals as goal
 

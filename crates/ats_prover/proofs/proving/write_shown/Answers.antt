@@ -19,7 +19,7 @@ use Rattle.ats_proof.specs.Value.{digest_fields, entry_fields, slot_fields}
 use Rattle.ats_honest.specs.Terms.{AreNeeded, shown_entry, slot_of}
 use Rattle.ats_honest.specs.Lanes.{present}
 use Rattle.ats_honest.proofs.Public.{HasParts, spot_each, positions_below}
-use Rattle.ats_prover.specs.Writing.{put}
+use Rattle.ats_prover.specs.Inner.Writing.{put}
 use Rattle.ats_prover.proofs.Asked.{front_put, kind_of_documents, written}
 use Rattle.ats_prover.proofs.proving.write_shown.Goals as goal
 

@@ -3,7 +3,7 @@ use Rattle.std.proofs.lemmas.Result.{on_ok_weaker}
 use Rattle.ats_bound.specs.Schedule.{IsCut, WholeLane, shown, whole_lanes}
 use Rattle.ats_honest.specs.Lanes.{lanes_of}
 use Rattle.ats_honest.specs.Honest.{AreMet, IsCutShown}
-use Rattle.ats_prover.specs.Writing.{IsShownWith}
+use Rattle.ats_prover.specs.Inner.Writing.{IsShownWith}
 use Rattle.ats_prover.proofs.Asked.{written_as}
 use Rattle.ats_prover.proofs.proving.write_unanswered.Goals as goal
 

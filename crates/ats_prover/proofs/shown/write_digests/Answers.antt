@@ -5,7 +5,7 @@ use Rattle.ats_proof.specs.Records.{count16_record}
 use Rattle.ats_proof.specs.Written.{Written, after}
 use Rattle.ats_proof.specs.Parts.{spelled}
 use Rattle.ats_proof.specs.Value.{digest_fields}
-use Rattle.ats_prover.specs.Writing.{put}
+use Rattle.ats_prover.specs.Inner.Writing.{put}
 use Rattle.ats_prover.proofs.Putting.{put_put, started}
 use Rattle.ats_proof.proofs.Public.{spelled_2}
 use Rattle.ats_prover.proofs.shown.write_digests.Goals as goal

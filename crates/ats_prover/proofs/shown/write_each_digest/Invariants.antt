@@ -1,7 +1,7 @@
 use Rattle.std.proofs.Common.{◌≡◌, ◌≤◌, ◌+◌, ◌*◌, take}
 use Rattle.std.specs.List.{flat_map}
 use Rattle.ats_proof.specs.Value.{digest_fields}
-use Rattle.ats_prover.specs.Writing.{put}
+use Rattle.ats_prover.specs.Inner.Writing.{put}
 use Rattle.ats_prover.proofs.shown.write_each_digest.Given as goal
 
 -- the digests so far

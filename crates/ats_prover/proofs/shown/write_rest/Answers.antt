@@ -6,7 +6,7 @@ use Rattle.ats_proof.specs.Written.{Written}
 use Rattle.ats_proof.specs.Parts.{counted}
 use Rattle.ats_proof.specs.Value.{digest_fields, slot_fields}
 use Rattle.ats_honest.specs.Terms.{slot_of}
-use Rattle.ats_prover.specs.Writing.{put}
+use Rattle.ats_prover.specs.Inner.Writing.{put}
 use Rattle.ats_honest.proofs.Public.{dictionary_few}
 use Rattle.ats_prover.proofs.KeptDigests.{kept_positions}
 use Rattle.ats_prover.proofs.Putting.{put_put, started}

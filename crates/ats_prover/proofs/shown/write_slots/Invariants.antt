@@ -2,7 +2,7 @@ use Rattle.std.proofs.Common.{◌≡◌, ◌≤◌, ◌+◌, ◌*◌, map, take}
 use Rattle.std.specs.List.{flat_map}
 use Rattle.ats_proof.specs.Value.{slot_fields}
 use Rattle.ats_honest.specs.Terms.{slot_of}
-use Rattle.ats_prover.specs.Writing.{put}
+use Rattle.ats_prover.specs.Inner.Writing.{put}
 use Rattle.ats_prover.proofs.shown.write_slots.Given as goal
 
 -- the slots so far

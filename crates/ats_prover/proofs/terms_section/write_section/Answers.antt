@@ -9,7 +9,7 @@ use Rattle.ats_proof.specs.Value.{digest_fields, slot_fields, term_fields}
 use Rattle.ats_proof.specs.Written.{Written}
 use Rattle.ats_honest.specs.Documents.{IsTermSpot, shown_term}
 use Rattle.ats_honest.specs.Terms.{AreNeeded, slot_of}
-use Rattle.ats_prover.specs.Writing.{put}
+use Rattle.ats_prover.specs.Inner.Writing.{put}
 use Rattle.ats_honest.proofs.Public.{lower_item, all_below}
 use Rattle.ats_prover.proofs.MetLeaves.{written_section}
 use Rattle.ats_prover.proofs.terms_section.write_section.Goals as goal

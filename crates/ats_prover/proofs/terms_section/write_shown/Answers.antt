@@ -8,7 +8,7 @@ use Rattle.ats_proof.specs.Parts.{counted}
 use Rattle.ats_proof.specs.Value.{digest_fields, slot_fields, term_fields}
 use Rattle.ats_honest.specs.Documents.{shown_term}
 use Rattle.ats_honest.specs.Terms.{slot_of}
-use Rattle.ats_prover.specs.Writing.{put}
+use Rattle.ats_prover.specs.Inner.Writing.{put}
 use Rattle.ats_prover.proofs.Putting.{put_put}
 use Rattle.ats_prover.proofs.terms_section.write_shown.Goals as goal
 

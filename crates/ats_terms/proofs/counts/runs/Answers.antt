@@ -3,7 +3,7 @@ use Rattle.std.specs.List.{zip}
 use Rattle.std.proofs.lemmas.List.{get_or_default, length-set}
 use Rattle.ats_terms.specs.Query.{counted}
 use Rattle.ats_terms.specs.Distinct.{AreDistinct}
-use Rattle.ats_terms.specs.Packed.{strings}
+use Rattle.ats_terms.specs.Inner.Packed.{strings}
 use Rattle.ats_terms.proofs.Packing.{length-strings_from}
 use Rattle.ats_terms.proofs.Runs.{runs_again, runs_next, zip_push, zip_bump, count_at, run_few, some_runs, length_zipped}
 use Rattle.ats_terms.proofs.Unique.{counted_distinct}

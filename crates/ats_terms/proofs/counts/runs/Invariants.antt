@@ -1,6 +1,6 @@
 use Rattle.std.proofs.Common.{◌≡◌, length}
 use Rattle.std.specs.List.{zip}
-use Rattle.ats_terms.specs.Packed.{strings, ArePacked}
+use Rattle.ats_terms.specs.Inner.Packed.{strings, ArePacked}
 use Rattle.ats_terms.proofs.Runs.{AreRuns}
 use Rattle.ats_terms.proofs.counts.runs.Given as goal
 

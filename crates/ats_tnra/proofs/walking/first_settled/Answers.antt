@@ -5,7 +5,8 @@ use Rattle.ats_bound.specs.QuickTest.{TellsSettled}
 use Rattle.ats_bound.specs.Running.{Standing}
 use Rattle.ats_bound.specs.Schedule.{AreWholeLanes, CanSettleBy, IsCut, IsNextLane, WholeLane, shown, whole_lanes}
 use Rattle.ats_bound.specs.Settled.{IsSettled}
-use Rattle.ats_bound.specs.Stand.{IsReached, IsStand}
+use Rattle.ats_bound.specs.Stand.{IsStand}
+use Rattle.ats_bound.specs.Inner.Stand.{IsReached}
 use Rattle.ats_bound.proofs.Public.{end_at, reached_after, reached_first, is_narrow, missing_within, fewer_hidden, have_entries, scheduled_is_cut, whole_settled}
 use Rattle.ats_tnra.proofs.walking.first_settled.Goals as goal
 

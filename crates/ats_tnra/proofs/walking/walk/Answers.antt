@@ -5,7 +5,7 @@ use Rattle.ats_bound.specs.Chosen.{IsChosen}
 use Rattle.ats_bound.specs.Cut.{bracket, threshold}
 use Rattle.ats_bound.specs.Settled.{IsSettled}
 use Rattle.ats_bound.specs.Schedule.{AreBracketsBy, IsFirstSettledBy, shown, whole_lanes}
-use Rattle.ats_bound.specs.Stand.{IsEnd}
+use Rattle.ats_bound.specs.Inner.Stand.{IsEnd}
 use Rattle.ats_tnra.proofs.walking.walk.Goals as goal
 
 pub returns-clause-cut : goal.returns-clause-cut

@@ -5,7 +5,7 @@ use Rattle.ats_bound.specs.Lookup.{Table}
 use Rattle.ats_bound.specs.Schedule.{WholeLane, whole_lanes}
 use Rattle.ats_bound.specs.Scored.{first_document}
 use Rattle.ats_bound.proofs.Public.{first_given, no_lane, whole_at}
-use Rattle.ats_tra.specs.Looked.{score_by}
+use Rattle.ats_tra.specs.Inner.Looked.{score_by}
 use Rattle.ats_tra.proofs.looking.first_scores.Goals as goal
 
 pub first_document-requires : goal.first_document-requires

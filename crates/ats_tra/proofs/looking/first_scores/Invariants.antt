@@ -1,7 +1,7 @@
 use Rattle.std.proofs.Common.{◌≡◌, ◌<◌, ℕ, length, get_or}
 use Rattle.ats_bound.specs.Schedule.{whole_lanes}
 use Rattle.ats_bound.specs.Scored.{first_document}
-use Rattle.ats_tra.specs.Looked.{score_by}
+use Rattle.ats_tra.specs.Inner.Looked.{score_by}
 use Rattle.ats_tra.proofs.looking.first_scores.Given as goal
 
 abbrev pub invariant-loop-lane : goal.invariant-loop-lane

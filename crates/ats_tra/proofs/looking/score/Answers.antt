@@ -5,7 +5,7 @@ use Rattle.ats_bound.specs.declared.lane.Lane.{Lane}
 use Rattle.ats_bound.specs.Lookup.{Table}
 use Rattle.ats_bound.specs.Schedule.{IsWholeLane, WholeLane, whole_lane, whole_lanes}
 use Rattle.ats_bound.proofs.Public.{no_lane, whole_at}
-use Rattle.ats_tra.specs.Looked.{score_by}
+use Rattle.ats_tra.specs.Inner.Looked.{score_by}
 use Rattle.ats_tra.proofs.Exact.{score_more}
 use Rattle.ats_tra.proofs.looking.score.Goals as goal
 

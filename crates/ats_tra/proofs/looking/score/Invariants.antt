@@ -1,6 +1,6 @@
 use Rattle.std.proofs.Common.{◌≡◌, ◌≤◌, ◌*◌, ◌^◌, take}
 use Rattle.ats_bound.specs.Schedule.{whole_lanes}
-use Rattle.ats_tra.specs.Looked.{score_by}
+use Rattle.ats_tra.specs.Inner.Looked.{score_by}
 use Rattle.ats_tra.proofs.looking.score.Given as goal
 
 -- the score by the first lanes

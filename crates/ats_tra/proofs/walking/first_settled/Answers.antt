@@ -3,17 +3,16 @@ use Rattle.ats_bound.specs.declared.walk.Walk.{Walk}
 use Rattle.ats_bound.specs.Cut.{threshold}
 use Rattle.ats_bound.specs.Front.{Stage}
 use Rattle.ats_bound.specs.Lookup.{Table, looked_up}
-use Rattle.ats_bound.specs.Schedule.{AreBracketsBy, Bounding, CanSettleBy, IsNextLane, WholeLane, shown, whole_lanes}
+use Rattle.ats_bound.specs.Schedule.{AreBracketsBy, Bounding, CanSettleBy, IsNextLane, WholeLane, shown, whole_lanes, whole_lane}
 use Rattle.ats_bound.specs.Scored.{AreFirstScores, ScoredStanding}
 use Rattle.ats_bound.specs.QuickTest.{TellsSettled}
 use Rattle.ats_bound.specs.Settled.{IsSettled}
 use Rattle.ats_bound.specs.Stand.{IsStand}
 use Rattle.ats_bound.proofs.Public.{end_at, reached_after, reached_first, fewer_hidden, whole_settled}
-use Rattle.ats_tra.specs.Looked.{score_by}
+use Rattle.ats_tra.specs.Inner.Looked.{score_by}
 use Rattle.ats_tra.proofs.Exact.{looked_is_narrow}
 use Rattle.ats_tra.proofs.Turns.{finished, looked_there, told_there}
 use Rattle.std.proofs.lemmas.List.{length-map}
-use Rattle.ats_bound.specs.Schedule.{whole_lane}
 use Rattle.std.proofs.Common.{arith}
 use Rattle.ats_tra.proofs.walking.first_settled.Goals as goal
 

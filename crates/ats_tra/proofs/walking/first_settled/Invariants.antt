@@ -3,10 +3,10 @@ use Rattle.std.specs.List.{sum_by}
 use Rattle.ats_bound.specs.Front.{shown_on}
 use Rattle.ats_bound.specs.Lookup.{looked_up}
 use Rattle.ats_bound.specs.Schedule.{AreBracketsBy, whole_lanes}
-use Rattle.ats_bound.specs.Stand.{IsReached}
+use Rattle.ats_bound.specs.Inner.Stand.{IsReached}
 use Rattle.ats_bound.specs.Scored.{exactly}
 use Rattle.ats_bound.proofs.Public.{hidden}
-use Rattle.ats_tra.specs.Looked.{score_by}
+use Rattle.ats_tra.specs.Inner.Looked.{score_by}
 use Rattle.ats_tra.proofs.walking.first_settled.Given as goal
 
 abbrev pub invariant-loop-lane : goal.invariant-loop-lane

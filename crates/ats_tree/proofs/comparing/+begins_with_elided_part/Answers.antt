@@ -3,7 +3,7 @@ use Rattle.std.specs.List.{All, slice_get}
 use Rattle.std.proofs.lemmas.Bool.{eqb-true, eqb-false}
 use Rattle.std.proofs.lemmas.List.Elements.{All-drop}
 use Rattle.std.proofs.lemmas.Slice.Eq.{bytes_eq-Decides}
-use Rattle.ats_tree.specs.Part.{RisesWithin}
+use Rattle.ats_tree.specs.Inner.Part.{RisesWithin}
 use Rattle.ats_tree.specs.Elided.{shown_with}
 use Rattle.ats_tree.specs.Kept.{elided_part}
 use Rattle.ats_tree.proofs.ElidedLemmas.{front-rises, back-rises}

@@ -1,7 +1,7 @@
 use Rattle.std.proofs.Common.{◌≡◌, ℕ, ◌+◌, ◌-◌, ◌*◌, ◌<◌, ◌≤◌, List, [], ◌++◌, length, arith, sym, ◌∙◌, ap, subst, OnOk}
 use Rattle.std.proofs.lemmas.Bool.{eqb-true, eqb-false}
 use Rattle.std.proofs.lemmas.List.{append-nil, append_assoc}
-use Rattle.ats_tree.specs.Part.{RisesWithin}
+use Rattle.ats_tree.specs.Inner.Part.{RisesWithin}
 use Rattle.ats_tree.specs.Elided.{shown_with}
 use Rattle.ats_tree.specs.Kept.{elided_part}
 use Rattle.ats_tree.proofs.ElidedLemmas.{front-rises, back-rises}

@@ -1,7 +1,7 @@
 use Rattle.std.proofs.Common.{◌++◌, ℕ, List, [], take, arith, append_assoc, length-append, subst}
 use Rattle.std.proofs.lemmas.List.{length-take-le}
 use Rattle.std.proofs.lemmas.Result.{err_from_is_err_and}
-use Rattle.ats_wire.specs.Asking.{RestFault}
+use Rattle.ats_wire.specs.Inner.Asking.{RestFault}
 use Rattle.ats_wire.proofs.Moved.{moves_then}
 use Rattle.ats_wire.proofs.feeding.pass_rest.Goals as goal
 

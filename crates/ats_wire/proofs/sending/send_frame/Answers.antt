@@ -1,6 +1,6 @@
 use Rattle.std.proofs.Common.{◌≡◌, ◌+◌, ◌-◌, ◌∙◌, ◌++◌, ◌∷◌, List, ℕ, length, take, drop, ap, subst}
 use Rattle.ats_wire.specs.Requests.{framed}
-use Rattle.ats_wire.specs.Moving.{IsCutOff}
+use Rattle.ats_wire.specs.Inner.Moving.{IsCutOff}
 use Rattle.ats_wire.proofs.Moved.{frame_sent, cut_first, cut_rest, on_err_any}
 use Rattle.ats_wire.proofs.Spelled.{to_end}
 use Rattle.ats_wire.proofs.sending.send_frame.Goals as goal

@@ -3,7 +3,7 @@ use Rattle.ats_wire.proofs.Moved.{moves_then}
 use Rattle.ats_wire.proofs.Turns.{err_part, ok_part, answers_same, ends_reading, one_more, cut_turn}
 use Rattle.std.proofs.Common.{subst}
 use Rattle.std.proofs.lemmas.List.{length-take-le}
-use Rattle.ats_wire.specs.Connections.{IsReplied, IsCutReply}
+use Rattle.ats_wire.specs.Inner.Connections.{IsReplied, IsCutReply}
 use Rattle.ats_wire.proofs.serving.serve_connection.Goals as goal
 
 pub returns-in-Err-clause-served : goal.returns-in-Err-clause-served

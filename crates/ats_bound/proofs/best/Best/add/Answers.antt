@@ -1,5 +1,5 @@
 use Rattle.std.proofs.Common.{◌≡◌, ◌≤◌, ℕ, List, get_or, refl, subst, arith}
-use Rattle.ats_bound.specs.Best.{AreKept}
+use Rattle.ats_bound.specs.Inner.Best.{AreKept}
 use Rattle.ats_bound.proofs.Kept.{added_high, added_low, first_is}
 use Rattle.ats_bound.proofs.best.Best.add.Goals as goal
 

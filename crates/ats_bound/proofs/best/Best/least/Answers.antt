@@ -1,5 +1,5 @@
 use Rattle.std.proofs.Common.{◌≡◌, ℕ, List, get_or, subst}
-use Rattle.ats_bound.specs.Best.{AreKept}
+use Rattle.ats_bound.specs.Inner.Best.{AreKept}
 use Rattle.ats_bound.proofs.Kept.{first_is, least_reaches}
 use Rattle.ats_bound.proofs.best.Best.least.Goals as goal
 

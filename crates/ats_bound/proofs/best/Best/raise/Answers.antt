@@ -1,7 +1,7 @@
 use Rattle.std.proofs.Common.{◌≡◌, ◌≢◌, ◌<◌, ◌∷◌, ℕ, List, length, get_or, sym, subst, arith, inl, inr, ◌∙◌, Ok, Err}
 use Rattle.std.proofs.lemmas.Bool.{cases_lt}
 use Rattle.std.proofs.lemmas.List.Sorted.{IsPermutation-refl, searched}
-use Rattle.ats_bound.specs.Best.{AreKept}
+use Rattle.ats_bound.specs.Inner.Best.{AreKept}
 use Rattle.ats_bound.proofs.Kept.{absent_is_low, raised, raised_absent}
 use Rattle.ats_bound.proofs.best.Best.raise.Goals as goal
 

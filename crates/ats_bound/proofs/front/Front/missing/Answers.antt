@@ -1,6 +1,7 @@
 use Rattle.std.proofs.Common.{◌≡◌, ◌<◌, ℕ, List, length, get_or, ap, ◌∙◌, subst, arith, take_all}
 use Rattle.ats_bound.specs.Cut.{ShownLane, missing, rest}
-use Rattle.ats_bound.specs.Front.{AreRests, Stage, shown_on}
+use Rattle.ats_bound.specs.Front.{Stage, shown_on}
+use Rattle.ats_bound.specs.Inner.Front.{AreRests}
 use Rattle.ats_bound.proofs.Shown.{no_shown}
 use Rattle.ats_bound.proofs.Stages.{digits_after, missing_even, missing_odd, rest_on, rests_size, stage_size}
 use Rattle.ats_bound.proofs.front.Front.missing.Goals as goal

@@ -1,6 +1,7 @@
 use Rattle.std.proofs.Common.{◌≡◌, ◌≤◌, ◌*◌, ◌^◌, ℕ, drop, take}
 use Rattle.ats_bound.specs.Cut.{missing}
-use Rattle.ats_bound.specs.Front.{named_by, shown_on}
+use Rattle.ats_bound.specs.Front.{shown_on}
+use Rattle.ats_bound.specs.Inner.Front.{named_by}
 use Rattle.ats_bound.proofs.front.Front.missing.Given as goal
 
 -- what the first lanes can add, and the digits of the others

@@ -1,7 +1,7 @@
 use Rattle.std.proofs.Common.{◌≡◌, ℕ, List, length, map, arith, ap, sym, subst, rules}
 use Rattle.ats_bound.specs.declared.lane.Lane.{Lane}
 use Rattle.ats_bound.specs.Cut.{rest}
-use Rattle.ats_bound.specs.Front.{AreRests}
+use Rattle.ats_bound.specs.Inner.Front.{AreRests}
 use Rattle.ats_bound.specs.Schedule.{IsCut, WholeLane, shown, whole_lanes}
 use Rattle.std.proofs.lemmas.List.{length-map}
 use Rattle.ats_bound.proofs.Shown.{length-shown, first_is_cut, have_entries}

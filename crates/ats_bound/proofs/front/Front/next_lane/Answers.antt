@@ -1,6 +1,7 @@
 use Rattle.std.proofs.Common.{◌≡◌, ◌<◌, ℕ, List, length, get_or, ap, ◌∙◌, subst, subst₂, refl, arith}
 use Rattle.ats_bound.specs.Cut.{ShownLane, rest}
-use Rattle.ats_bound.specs.Front.{AreRests, Stage, shown_on}
+use Rattle.ats_bound.specs.Front.{Stage, shown_on}
+use Rattle.ats_bound.specs.Inner.Front.{AreRests}
 use Rattle.ats_bound.specs.Schedule.{IsNextLane}
 use Rattle.ats_bound.proofs.AllShown.{all_shown, not_all_shown}
 use Rattle.ats_bound.proofs.Greatest.{IsGreatest, greater, next_at, no_greater, none_left}

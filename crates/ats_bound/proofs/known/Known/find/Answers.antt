@@ -1,4 +1,4 @@
-use Rattle.ats_bound.specs.Pages.{slot_in}
+use Rattle.ats_bound.specs.Inner.Pages.{slot_in}
 use Rattle.ats_bound.proofs.Slots.{slot_found, slots_once}
 use Rattle.ats_bound.proofs.known.Known.find.Goals as goal
 

@@ -2,8 +2,8 @@ use Rattle.std.proofs.Common.{◌≡◌, ◌≢◌, ◌<◌, ◌+◌, ◌/◌, �
 use Rattle.std.specs.Map.{lookup}
 use Rattle.std.proofs.Math.Seq.{take-append_seam}
 use Rattle.ats_bound.specs.declared.known.Met.{Met}
-use Rattle.ats_bound.specs.Known.{AreSlots, met_at}
-use Rattle.ats_bound.specs.Pages.{slot_at, slot_in}
+use Rattle.ats_bound.specs.Inner.Known.{AreSlots, met_at}
+use Rattle.ats_bound.specs.Inner.Pages.{slot_at, slot_in}
 use Rattle.ats_bound.proofs.Slots.{slots_after}
 use Rattle.ats_bound.proofs.known.Known.push.Goals as goal
 

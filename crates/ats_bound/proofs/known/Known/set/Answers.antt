@@ -1,7 +1,7 @@
 use Rattle.std.proofs.Common.{◌≡◌, ◌<◌, List, length, sym, subst}
-use Rattle.ats_bound.specs.Pages.{slot_in}
+use Rattle.ats_bound.specs.Inner.Pages.{slot_in}
 use Rattle.ats_bound.specs.declared.known.Met.{Met}
-use Rattle.ats_bound.specs.Known.{met_at}
+use Rattle.ats_bound.specs.Inner.Known.{met_at}
 use Rattle.ats_bound.proofs.Slots.{slots_set}
 use Rattle.ats_bound.proofs.known.Known.set.Goals as goal
 

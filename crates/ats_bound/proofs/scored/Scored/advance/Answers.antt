@@ -4,7 +4,8 @@ use Rattle.std.specs.List.{All}
 use Rattle.ats_bound.specs.declared.bracket.Bracket.{Bracket}
 use Rattle.ats_bound.specs.Front.{Stage, entry_on, shown_on}
 use Rattle.ats_bound.specs.Schedule.{IsOpen, has_bracket}
-use Rattle.ats_bound.specs.Scored.{ScoredStanding, exact_brackets, exactly, score_in}
+use Rattle.ats_bound.specs.Scored.{ScoredStanding, exactly}
+use Rattle.ats_bound.specs.Inner.Scored.{exact_brackets, score_in}
 use Rattle.ats_bound.proofs.Exactly.{given_scores, has_exact, scored_after, scored_brackets}
 use Rattle.ats_bound.proofs.scored.Scored.advance.Goals as goal
 

@@ -1,6 +1,7 @@
 use Rattle.std.proofs.Common.{◌≡◌, ℕ, List, sym, ap, ◌∙◌, subst}
 use Rattle.ats_bound.specs.Chosen.{AreBrackets}
-use Rattle.ats_bound.specs.Scored.{ScoredStanding, exact_brackets}
+use Rattle.ats_bound.specs.Scored.{ScoredStanding}
+use Rattle.ats_bound.specs.Inner.Scored.{exact_brackets}
 use Rattle.ats_bound.specs.Settled.{HaveDistinctDocs}
 use Rattle.ats_bound.proofs.Exactly.{scored_proper, scored_rise}
 use Rattle.ats_bound.proofs.One.{risen_are_distinct}

@@ -1,6 +1,6 @@
 use Rattle.std.proofs.Common.{ℕ, List, arith, ◌∙◌}
 use Rattle.ats_bound.specs.Schedule.{whole_lanes}
-use Rattle.ats_bound.specs.Scored.{AreScored}
+use Rattle.ats_bound.specs.Inner.Scored.{AreScored}
 use Rattle.ats_bound.proofs.Exactly.{scored_brackets, scored_first}
 use Rattle.ats_bound.proofs.scored.Scored.new.Goals as goal
 

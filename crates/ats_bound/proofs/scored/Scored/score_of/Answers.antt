@@ -1,5 +1,5 @@
 use Rattle.std.proofs.Common.{◌≡◌, ℕ, List, sym, ◌∙◌}
-use Rattle.ats_bound.specs.Scored.{score_in}
+use Rattle.ats_bound.specs.Inner.Scored.{score_in}
 use Rattle.ats_bound.proofs.Exactly.{score_matches}
 use Rattle.ats_bound.proofs.scored.Scored.score_of.Goals as goal
 

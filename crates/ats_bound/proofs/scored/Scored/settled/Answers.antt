@@ -2,7 +2,7 @@ use Rattle.std.proofs.Common.{◌≡◌, ◌↔◌, ℕ, List, leb, nat_eq, true
 use Rattle.std.specs.Bool.{IsTrue}
 use Rattle.ats_bound.specs.Cut.{threshold}
 use Rattle.ats_bound.specs.Front.{shown_on}
-use Rattle.ats_bound.specs.Scored.{exact_brackets}
+use Rattle.ats_bound.specs.Inner.Scored.{exact_brackets}
 use Rattle.ats_bound.specs.QuickTest.{PassesQuickTest}
 use Rattle.ats_bound.proofs.One.{same_doc}
 use Rattle.ats_bound.proofs.Reach.{least_answers, tells_settled, zero_answers}

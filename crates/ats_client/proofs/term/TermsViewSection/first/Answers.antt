@@ -1,7 +1,7 @@
 use Rattle.std.proofs.Common.{◌∙◌, List, ap}
 use Rattle.ats_tree.specs.Shown.{Shown, first_position}
 use Rattle.ats_proof.specs.SeenTerms as view
-use Rattle.ats_client.specs.SeenTerms.{terms_left}
+use Rattle.ats_client.specs.Inner.SeenTerms.{terms_left}
 use Rattle.ats_client.proofs.Firsts.{first_told}
 use Rattle.ats_client.proofs.term.TermsViewSection.first.Goals as goal
 

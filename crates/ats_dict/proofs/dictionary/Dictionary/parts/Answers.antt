@@ -3,7 +3,7 @@ use Rattle.std.proofs.lemmas.List.{length-map, length-drop, get_or-map}
 use Rattle.ats_dict.specs.declared.dictionary.Stored.{Stored}
 use Rattle.ats_dict.specs.Entry.{DictEntry}
 use Rattle.ats_dict.specs.Dictionary.{high, entry_at}
-use Rattle.ats_dict.specs.Packed.{ArePacked, front_of, entry_of, entries_of}
+use Rattle.ats_dict.specs.Inner.Packed.{ArePacked, front_of, entry_of, entries_of}
 use Rattle.ats_dict.proofs.Sentinels.{entry_at-suc, entry_at-last}
 use Rattle.ats_dict.proofs.dictionary.Dictionary.parts.Goals as goal
 

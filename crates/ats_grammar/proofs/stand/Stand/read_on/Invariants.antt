@@ -1,5 +1,5 @@
 use Rattle.std.proofs.Common.{ℕ, ◌+◌, ◌*◌, ◌≤◌, List, length}
-use Rattle.ats_grammar.specs.Pending.{may_be_empty}
+use Rattle.ats_grammar.specs.Inner.Pending.{may_be_empty}
 use Rattle.ats_grammar.specs.Standing.{IsAt}
 use Rattle.ats_grammar.proofs.stand.Stand.read_on.Given as goal
 

@@ -1,6 +1,7 @@
 use Rattle.std.proofs.Common.{ℕ, List, ◌∷◌, subst, arith}
 use Rattle.std.specs.List.{IsFirstAndRest}
-use Rattle.ats_grammar.specs.Standing.{IsAt, IsWrong}
+use Rattle.ats_grammar.specs.Standing.{IsAt}
+use Rattle.ats_grammar.specs.Inner.Standing.{IsWrong}
 use Rattle.ats_grammar.proofs.stand.Stand.step.Goals as goal
 
 pub returns-in-Err-clause-wrong : goal.returns-in-Err-clause-wrong

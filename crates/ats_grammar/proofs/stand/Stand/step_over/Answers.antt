@@ -2,7 +2,7 @@ use Rattle.std.proofs.Common.{subst}
 use Rattle.ats_grammar.specs.State.{remaining}
 use Rattle.ats_grammar.specs.declared.next.Next.{Next}
 use Rattle.ats_grammar.specs.Table.{head}
-use Rattle.ats_grammar.specs.Reading.{IsTaken, IsRefused}
+use Rattle.ats_grammar.specs.Inner.Reading.{IsTaken, IsRefused}
 use Rattle.ats_grammar.proofs.Pieces.{wrong_start, own_refusal, on_taken}
 use Rattle.ats_grammar.proofs.stand.Stand.step_over.Goals as goal
 

@@ -2,7 +2,7 @@ use Rattle.std.proofs.Common.{◌≡◌, ◌≤◌, ◌+◌, ◌-◌, ◌∙◌,
 use Rattle.std.specs.Prelude.{nat_eq}
 use Rattle.std.specs.List.{common_prefix_len}
 use Rattle.std.proofs.lemmas.List.Sums.{common_prefix_len-le}
-use Rattle.ats_index.specs.Comparing.{IsCompared}
+use Rattle.ats_index.specs.Inner.Comparing.{IsCompared}
 use Rattle.ats_index.proofs.Reading.{to_end}
 use Rattle.ats_index.proofs.ComparingLemmas.{put_next}
 use Rattle.ats_index.proofs.compare.ComparerTakes.put.Goals as goal

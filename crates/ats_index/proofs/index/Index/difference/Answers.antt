@@ -1,7 +1,7 @@
 use Rattle.std.proofs.Common.{◌≡◌, MatchOption, ℕ, List, sym, subst}
 use Rattle.ats_index.specs.Spelling.{index_bytes}
 use Rattle.ats_index.specs.LoadFaults.{IsDifference}
-use Rattle.ats_index.specs.Comparing.{IsCompared}
+use Rattle.ats_index.specs.Inner.Comparing.{IsCompared}
 use Rattle.ats_index.proofs.index.Index.difference.Goals as goal
 
 pub returns : goal.returns

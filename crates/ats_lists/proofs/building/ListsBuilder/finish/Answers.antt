@@ -1,5 +1,5 @@
 use Rattle.std.proofs.Common.{◌≡◌, ℕ, List, length, sym, ap, subst, ◌∙◌, arith}
-use Rattle.ats_lists.specs.Gathered.{Pairs, HasRun}
+use Rattle.ats_lists.specs.Inner.Gathered.{Pairs, HasRun}
 use Rattle.ats_postings.specs.Lists.{lists_of}
 use Rattle.ats_postings.proofs.Public.{lists_within}
 use Rattle.ats_lists.proofs.building.ListsBuilder.finish.Goals as goal

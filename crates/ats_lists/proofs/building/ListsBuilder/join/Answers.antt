@@ -1,5 +1,5 @@
 use Rattle.std.proofs.Common.{◌≡◌, ◌≤◌, ℕ, List, sym, ap, subst, ◌∙◌, arith}
-use Rattle.ats_lists.specs.Gathered.{HasRun}
+use Rattle.ats_lists.specs.Inner.Gathered.{HasRun}
 use Rattle.ats_lists.proofs.DocumentLemmas.{runs_joined}
 use Rattle.ats_lists.proofs.building.ListsBuilder.join.Goals as goal
 

@@ -1,7 +1,8 @@
 use Rattle.std.proofs.Common.{◌≡◌, ℕ, ◌+◌, ◌*◌, ◌/◌, ◌<◌, ◌≤◌, List, ◌∷◌, ◌++◌, length, refl, sym, ◌∙◌, ap₂, arith}
 use Rattle.ats_tree.proofs.Public.{kept-first}
 use Rattle.ats_lists.specs.Blocks.{blocks_in, block}
-use Rattle.ats_lists.specs.KeptChain.{kept_chain, chain_in}
+use Rattle.ats_lists.specs.KeptChain.{kept_chain}
+use Rattle.ats_lists.specs.Inner.KeptChain.{chain_in}
 use Rattle.ats_lists.proofs.ChainBinding.{chain-end}
 use Rattle.ats_lists.proofs.KeptChains.{entries-seen, first-seen}
 use Rattle.ats_lists.proofs.chain_keeping.Chain.block_string.Goals as goal

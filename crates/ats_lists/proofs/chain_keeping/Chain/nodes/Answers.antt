@@ -1,6 +1,7 @@
 use Rattle.std.proofs.Common.{◌≡◌, ℕ, ◌+◌, ◌-◌, ◌*◌, ◌/◌, ◌<◌, List, length, take, drop, ◌∙◌, ap, arith}
 use Rattle.ats_lists.specs.Blocks.{blocks_in}
-use Rattle.ats_lists.specs.KeptChain.{ChainDigests, kept_chain, chain_in}
+use Rattle.ats_lists.specs.KeptChain.{ChainDigests, kept_chain}
+use Rattle.ats_lists.specs.Inner.KeptChain.{chain_in}
 use Rattle.ats_lists.proofs.KeptChains.{entries-seen, nodes-there, nodes-seen}
 use Rattle.ats_lists.proofs.chain_keeping.Chain.nodes.Goals as goal
 

@@ -1,6 +1,6 @@
 use Rattle.std.proofs.Common.{◌≡◌, ℕ, ◌*◌, List, length, map, arith, ◌∙◌, ap}
 use Rattle.std.proofs.lemmas.List.{length-map}
-use Rattle.ats_lists.specs.KeptChain.{chain_in}
+use Rattle.ats_lists.specs.Inner.KeptChain.{chain_in}
 use Rattle.ats_lists.specs.Leaf.{leaf_bytes}
 use Rattle.ats_lists.proofs.KeptChains.{seen, placed, is-run}
 use Rattle.ats_lists.proofs.chain_keeping.Chain.of.Goals as goal

@@ -7,7 +7,7 @@ use Rattle.ats_terms.proofs.Public.{counted_counts}
 use Rattle.ats_impact.specs.Numbers.{impact}
 use Rattle.ats_impact.specs.Score.{total_terms}
 use Rattle.ats_postings.specs.Postings.{text_of, postings_of_run}
-use Rattle.ats_lists.specs.Gathered.{Pairs, entries_for, pairs_of}
+use Rattle.ats_lists.specs.Inner.Gathered.{Pairs, entries_for, pairs_of}
 use Rattle.ats_postings.specs.declared.entry.Entry.{Entry}
 use Rattle.ats_lists.proofs.DocumentLemmas.{pair_within, part_more, part_all, entry_is, entries_push}
 use Rattle.ats_lists.proofs.LogLemmas.{pairs_push, log_push}

@@ -1,5 +1,5 @@
 use Rattle.std.proofs.Common.{ℕ, List, take}
-use Rattle.ats_lists.specs.Gathered.{pairs_of, HasEntries, IsLogOf}
+use Rattle.ats_lists.specs.Inner.Gathered.{pairs_of, HasEntries, IsLogOf}
 use Rattle.ats_postings.specs.declared.entry.Entry.{Entry}
 use Rattle.ats_lists.proofs.DocumentLemmas.{so_far}
 use Rattle.ats_lists.proofs.gathering.Gathered.add_document.Given as goal

@@ -1,5 +1,5 @@
 use Rattle.std.proofs.Common.{◌≡◌, ◌++◌, map, ap, ap₂, ◌∙◌}
-use Rattle.ats_lists.specs.Gathered.{Pairs, pairs_of, renumbered}
+use Rattle.ats_lists.specs.Inner.Gathered.{Pairs, pairs_of, renumbered}
 use Rattle.ats_lists.proofs.LogLemmas.{pairs_joined, log_joined}
 use Rattle.ats_lists.proofs.gathering.Gathered.join.Goals as goal
 

@@ -1,5 +1,5 @@
 use Rattle.std.proofs.Common.{ℕ, List, arith}
-use Rattle.ats_lists.specs.Gathered.{AreNumbered}
+use Rattle.ats_lists.specs.Inner.Gathered.{AreNumbered}
 use Rattle.ats_lists.proofs.NumberLemmas.{numbered_moved}
 use Rattle.ats_lists.proofs.numbering.Numbering.into_places.Goals as goal
 

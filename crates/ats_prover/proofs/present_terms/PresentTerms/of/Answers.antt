@@ -4,8 +4,8 @@ use Rattle.std.proofs.lemmas.List.{map-append}
 use Rattle.std.proofs.lemmas.List.Elements.{All-push}
 use Rattle.ats_terms.specs.Query.{Rises}
 use Rattle.ats_dict.specs.declared.spot.Spot.{Spot}
-use Rattle.ats_honest.specs.Present.{standing}
-use Rattle.ats_prover.specs.Places.{terms_at}
+use Rattle.ats_honest.specs.Inner.Present.{standing}
+use Rattle.ats_prover.specs.Inner.Places.{terms_at}
 use Rattle.ats_honest.proofs.Public.{standing_more, standing_rises, standing_same}
 use Rattle.ats_prover.proofs.present_terms.PresentTerms.of.Goals as goal
 use Rattle.ats_prover.proofs.present_terms.PresentTerms.of.Goals.{in-At+in_ok-push-in-At, in-Between}

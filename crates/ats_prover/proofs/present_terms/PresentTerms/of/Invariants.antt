@@ -1,7 +1,7 @@
 use Rattle.std.proofs.Common.{◌≡◌, ◌<◌, ◌≤◌, length, take}
 use Rattle.std.specs.List.{All}
-use Rattle.ats_honest.specs.Present.{standing}
-use Rattle.ats_prover.specs.Places.{terms_at}
+use Rattle.ats_honest.specs.Inner.Present.{standing}
+use Rattle.ats_prover.specs.Inner.Places.{terms_at}
 use Rattle.ats_prover.proofs.present_terms.PresentTerms.of.Given as goal
 
 -- the places of those so far

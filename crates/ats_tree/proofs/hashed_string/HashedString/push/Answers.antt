@@ -1,5 +1,5 @@
 use Rattle.std.proofs.Common.{◌≡◌, ◌+◌, ℕ, length, ap, sym, ◌∙◌, arith}
-use Rattle.ats_tree.specs.Padded.{padded-len}
+use Rattle.ats_tree.specs.Inner.Padded.{padded-len}
 use Rattle.ats_tree.proofs.PaddedLemmas.{padded-more}
 use Rattle.ats_tree.proofs.hashed_string.HashedString.push.Goals as goal
 

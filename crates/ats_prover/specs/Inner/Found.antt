@@ -7,9 +7,10 @@ use Rattle.ats_dict.specs.declared.spot.Spot.{Spot}
 use Rattle.ats_commit.specs.Archive.{Archive}
 use Rattle.ats_commit.specs.Trees.{dictionary_of}
 use Rattle.ats_bound.specs.Schedule.{AreWholeLanes, WholeLane}
-use Rattle.ats_honest.specs.Terms.{AreSpots, lower}
+use Rattle.ats_honest.specs.Terms.{AreSpots}
+use Rattle.ats_honest.specs.Inner.Terms.{lower}
 use Rattle.ats_honest.specs.Lanes.{lanes_of, present}
-use Rattle.ats_prover.specs.Nodes.{list_digests}
+use Rattle.ats_prover.specs.Inner.Nodes.{list_digests}
 
 -- the spots of all terms, which have 32 bits; the terms that some text has; and their lists, with the kept digests
 pub record AreFound

@@ -12,7 +12,7 @@ use Rattle.ats_proof.specs.Value.{AreDocumentsOf, Documents, Proof, TermsSection
 use Rattle.ats_honest.specs.Documents.{AreHonestSections, HasDocuments, IsHonestSection}
 use Rattle.ats_honest.specs.Honest.{IsShownAt, prefixes}
 use Rattle.ats_honest.specs.Lanes.{lanes_of, present}
-use Rattle.ats_honest.specs.Order.{AreInOrder, ComesIn}
+use Rattle.ats_honest.specs.Inner.Order.{AreInOrder, ComesIn}
 
 -- the writer after these fields were appended, one after another
 abbrev pub put : Written → List (List ℕ) → Written

@@ -1,10 +1,7 @@
 -- Postings that are gathered with their terms, document by document.
-use Rattle.std.specs.Prelude.{◌≡◌, ◌<◌, ◌≤◌, ◌-◌, ◌+◌, ◌⊎◌, ◌==◌, ℕ, true, List, [], length, map, filter, slice_index_or}
+use Rattle.std.specs.Prelude.{◌≡◌, ◌<◌, ◌-◌, ◌+◌, ◌⊎◌, ◌==◌, ℕ, true, List, [], length, map, filter, slice_index_or}
 use Rattle.std.specs.List.{All, list_any}
-use Rattle.std.specs.List.Sorted.{IsStrictlySortedBy}
-use Rattle.std.specs.Ordering.{nat_cmp}
 use Rattle.std.specs.Str.{bytes_eq}
-use Rattle.std.specs.declared.cmp.Ordering.{Ordering}
 use Rattle.ats_terms.specs.Front.{front, AreBytes}
 use Rattle.ats_terms.specs.Terms.{IsTerm}
 use Rattle.ats_postings.specs.Postings.{postings_of_run}
@@ -29,8 +26,6 @@ pub record HasEntries (of : List ℕ → List Entry) (pairs : Pairs) : Type 0 wh
 abbrev pub HasRun : ℕ → ℕ → List (List ℕ) → Pairs → Type 0
 HasRun first behind texts pairs = HasEntries (postings_of_run first (behind - first) texts) pairs
 
--- ---- terms by number
-
 -- the term of a number
 abbrev pub term_of : List (List ℕ) → ℕ → List ℕ
 term_of terms n = slice_index_or terms n []
@@ -51,8 +46,6 @@ pub record IsSlotOf (terms : List (List ℕ)) (slot : Slot) : Type 0 where
 -- each slot is empty or a term's
 abbrev pub AreSlotsOf : List (List ℕ) → List Slot → Type 0
 AreSlotsOf terms slots = All (λ slot. (slot.size ≡ 0) ⊎ IsSlotOf terms slot) slots
-
--- ---- entries under the numbers of their terms
 
 -- the entries with the terms of their numbers
 abbrev pub pairs_of : List (List ℕ) → List Logged → Pairs

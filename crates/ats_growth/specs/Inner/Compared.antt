@@ -3,10 +3,10 @@ use Rattle.std.specs.Prelude.{◌≡◌, ℕ, List, take, reverse, Bool, Option,
 use Rattle.ats_tree.specs.Paths.{Path}
 use Rattle.ats_tree.specs.Strings.{string_at}
 use Rattle.ats_tree.specs.Tree.{Tree, digest_of}
-use Rattle.ats_consistency.specs.Paired.{ArePaired}
+use Rattle.ats_consistency.specs.Inner.Paired.{ArePaired}
 use Rattle.ats_consistency.specs.Shape.{need}
 use Rattle.ats_consistency.specs.Strings.{old_strings, new_strings, all_strings}
-use Rattle.ats_growth.specs.Unlike.{Two, first_unlike, unlike_or, strings_of}
+use Rattle.ats_growth.specs.Inner.Unlike.{Two, first_unlike, unlike_or, strings_of}
 use Rattle.ats_growth.specs.declared.joining.Side.{Side}
 use Rattle.ats_growth.specs.declared.joining.Compared.{Compared}
 

@@ -9,8 +9,6 @@ pub record IsPadded (len : ℕ) (block : List ℕ) : Type 0 where
   pub size : length block ≡ 128
   pub rest : drop len block ≡ replicate (128 - len) 0
 
--- ---- the string determines the block
-
 pub padded-len : (len : ℕ) (block : List ℕ) → IsPadded len block → length (take len block) ≡ len
 padded-len len block is =
     let short : len ≤ length block = omega (arith, is.few, is.size) in length-take-le len block short

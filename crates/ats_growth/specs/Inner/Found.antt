@@ -3,7 +3,8 @@ use Rattle.std.specs.Prelude.{◌≡◌, ℕ, List, ◌++◌, map, reverse, true
 use Rattle.std.specs.List.{flat_map}
 use Rattle.std.specs.Str.{bytes_eq}
 use Rattle.ats_commit.specs.Archive.{Archive}
-use Rattle.ats_commit.specs.Root.{header_string, own_header_string}
+use Rattle.ats_commit.specs.Root.{header_string}
+use Rattle.ats_commit.specs.Inner.Root.{own_header_string}
 use Rattle.ats_dict.specs.declared.header.Header.{Header}
 use Rattle.ats_lists.specs.declared.format.Format.{Format}
 use Rattle.ats_tree.specs.Differences.{Hashed, moved, Difference}
@@ -11,7 +12,7 @@ use Rattle.ats_tree.specs.Tree.{tree_of}
 use Rattle.ats_consistency.specs.Shape.{turns}
 use Rattle.ats_consistency.specs.Strings.{Beside, beside, new_strings, old_strings, ranges, range_pairs}
 use Rattle.ats_consistency.specs.Value.{Growth}
-use Rattle.ats_growth.specs.Unlike.{strings_of, in_part}
+use Rattle.ats_growth.specs.Inner.Unlike.{strings_of, in_part}
 use Rattle.ats_growth.specs.Verdicts.{collision_of}
 use Rattle.ats_growth.specs.declared.auditing.Collided.{Collided}
 use Rattle.ats_growth.specs.declared.auditing.Found.{Found}

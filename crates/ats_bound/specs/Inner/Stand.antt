@@ -1,0 +1,20 @@
+-- Beside specs/Stand: what only the functions of this room promise one another.
+use Rattle.std.specs.Prelude.{◌<◌, ℕ, List}
+use Rattle.ats_bound.specs.declared.walk.Walk.{Walk}
+use Rattle.ats_bound.specs.Cut.{threshold}
+use Rattle.ats_bound.specs.Settled.{IsSettled}
+use Rattle.ats_bound.specs.Schedule.{WholeLane, Bounding, CanSettleBy, IsFirstSettledBy, IsScheduled}
+use Rattle.ats_bound.specs.Stand.{IsStand}
+
+-- the walk is at the first cut of the schedule at which an answer is settled, with the chosen answer
+pub record IsEnd (bounds : Bounding) (lanes : List WholeLane) (r : ℕ) (walk : Walk) : Type 0 where
+  pub first : IsFirstSettledBy bounds lanes r walk.cut
+  pub stand : IsStand bounds lanes r walk.cut walk
+  pub settled : IsSettled walk.brackets walk.picks walk.threshold r
+
+-- a cut of the schedule, with no answer settled at an earlier one
+pub record IsReached (bounds : Bounding) (lanes : List WholeLane) (r : ℕ) (counts : List ℕ) : Type 0 where
+  pub turns : ℕ
+  pub scheduled : IsScheduled lanes turns counts
+  pub none : (n : ℕ) (earlier : List ℕ) → n < turns
+      → IsScheduled lanes n earlier → CanSettleBy bounds lanes r earlier → ⊥

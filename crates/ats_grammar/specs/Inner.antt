@@ -1,0 +1,7 @@
+-- What the functions of the room promise one another. No public contract rests on it.
+
+pub mod Pending
+pub mod Reading
+pub mod Standing
+pub mod State
+pub mod Table

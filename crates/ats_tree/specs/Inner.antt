@@ -1,0 +1,6 @@
+-- What the functions of the room promise one another. No public contract rests on it.
+
+pub mod Clashes
+pub mod OwnShown
+pub mod Padded
+pub mod Part
