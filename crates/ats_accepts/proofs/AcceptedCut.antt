@@ -2,7 +2,7 @@
 use Rattle.std.proofs.Common.{◌≡◌, ◌<◌, ◌≤◌, ℕ, List, length, map, sym, ap, ap₂, subst, ◌∙◌}
 use Rattle.std.specs.List.{All}
 use Rattle.std.specs.List.Sorted.{IsStrictlyIncreasing}
-use Rattle.ats_base.specs.Rules.{AreKept}
+use Rattle.ats_base.specs.Rules.{AllHold}
 use Rattle.ats_dict.specs.declared.header.Header.{Header}
 use Rattle.ats_lists.specs.declared.format.Format.{Format}
 use Rattle.ats_commit.specs.Archive.{Archive}
@@ -115,8 +115,8 @@ module _ (H : List ℕ → List ℕ) (archive : Archive) (query : List (List ℕ
   documents_accepted = shown_documents H archive.texts terms query (present_numbers proof) named algorithm proof.met proof.docs is.docs
 
   -- all rules before those of the rows
-  pub sections_kept : (algorithm ≡ Tra → 1 ≤ length archive.texts) → AreKept (section_rules H (root_of H archive) query proof)
-  sections_kept some = (
+  pub section_rules_hold : (algorithm ≡ Tra → 1 ≤ length archive.texts) → AllHold (section_rules H (root_of H archive) query proof)
+  section_rules_hold some = (
     shown_opened H archive query algorithm cut documents proof is,
     (
       shown_dictionary H archive query algorithm cut documents proof is,

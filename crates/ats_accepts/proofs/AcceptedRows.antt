@@ -23,7 +23,7 @@ use Rattle.ats_honest.specs.Terms.{has}
 use Rattle.ats_honest.specs.Lanes.{bounding, lanes_of, present}
 use Rattle.ats_honest.specs.Honest.{AreMet, IsHonest}
 use Rattle.ats_honest.proofs.Public.{honest_cut, honest_met}
-use Rattle.ats_accepts.proofs.AcceptedCut.{met_within, sections_kept, shown_lanes}
+use Rattle.ats_accepts.proofs.AcceptedCut.{met_within, section_rules_hold, shown_lanes}
 use Rattle.ats_accepts.proofs.AcceptedImpacts.{honest_bounds}
 
 -- ---- the brackets
@@ -105,5 +105,5 @@ module _ (H : List ℕ → List ℕ) (archive : Archive) (query : List (List ℕ
   -- all rules hold of it
   pub honest_accepted : Accepts H (root_of H archive) query r proof
   honest_accepted =
-      let kept = sections_kept H archive query algorithm honest.cut documents proof is_cut are_met honest.shows some in
+      let kept = section_rules_hold H archive query algorithm honest.cut documents proof is_cut are_met honest.shows some in
       accepts_each H (root_of H archive) query r proof kept.0 kept.1.0 kept.1.1.0 kept.1.1.1.0 kept.1.1.1.1.0 kept.1.1.1.1.1.0 kept.1.1.1.1.1.1.0 honest_rows honest_settled

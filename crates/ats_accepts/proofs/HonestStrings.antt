@@ -37,7 +37,7 @@ use Rattle.ats_proof.specs.Runs as runs
 use Rattle.ats_proof.proofs.Public.{one_value}
 use Rattle.ats_client.specs.Documents.{documents_from}
 use Rattle.ats_client.specs.Presented.{Presented, presented}
-use Rattle.ats_client.specs.Strings.{hashed_header, strings_in, list_strings, terms_strings, documents_strings, strings_of, extract}
+use Rattle.ats_client.specs.Strings.{hashed_header, strings_in, list_strings, terms_strings, documents_strings, strings_of, proof_collision}
 use Rattle.ats_honest.specs.Documents.{AreHonestSections, HasDocuments, IsHonestSection, document_leaf}
 use Rattle.ats_honest.specs.Honest.{AreMet, IsHonest, IsProved, IsShownAt}
 use Rattle.ats_honest.specs.Lanes.{lanes_of, present}
@@ -173,7 +173,7 @@ module _ (H : List ℕ → List ℕ) (archive : Archive) (query : List (List ℕ
         (met_within H archive query algorithm cut documents proof is_cut are_met is))))
 
     -- so none of them clashes
-    pub shown_unclashing : extract H archive query proof ≡ None
+    pub shown_unclashing : proof_collision H archive query proof ≡ None
     shown_unclashing = own-none H (ours H archive query) (strings_of H query proof) shown_own
 
 -- ---- an honest proof
@@ -185,12 +185,12 @@ honest_own H archive query r algorithm proof some honest =
     (honest_met H archive query r algorithm proof honest) honest.shows
 
 pub honest_unclashing : (H : List ℕ → List ℕ) (archive : Archive) (query : List (List ℕ × ℕ)) (r : ℕ) (algorithm : Algorithm) (proof : Proof)
-    → (algorithm ≡ Tra → 1 ≤ length archive.texts) → IsHonest H archive query r algorithm proof → extract H archive query proof ≡ None
+    → (algorithm ≡ Tra → 1 ≤ length archive.texts) → IsHonest H archive query r algorithm proof → proof_collision H archive query proof ≡ None
 honest_unclashing H archive query r algorithm proof some honest =
     own-none H (ours H archive query) (strings_of H query proof) (honest_own H archive query r algorithm proof some honest)
 
 pub proved_unclashing : (H : List ℕ → List ℕ) (archive : Archive) (query : List (List ℕ × ℕ)) (r : ℕ) (algorithm : Algorithm) (bytes : List ℕ)
-    → IsProved H archive query r algorithm bytes → (proof : Proof) → IsProof bytes proof → extract H archive query proof ≡ None
+    → IsProved H archive query r algorithm bytes → (proof : Proof) → IsProof bytes proof → proof_collision H archive query proof ≡ None
 proved_unclashing H archive query r algorithm bytes is proof says =
-    subst (λ (p : Proof). extract H archive query p ≡ None) (one_value bytes is.proof proof is.spells says)
+    subst (λ (p : Proof). proof_collision H archive query p ≡ None) (one_value bytes is.proof proof is.spells says)
     (honest_unclashing H archive query r algorithm is.proof (λ tra. has_documents H archive query r algorithm bytes is) is.honest)

@@ -13,6 +13,6 @@
 mod laws;
 
 pub use laws::{
-    honest_proofs_are_accepted, honest_proofs_have_no_clash, shown_sections_are_kept,
-    shown_sections_have_no_clash,
+    honest_proofs_are_accepted, honest_proofs_have_no_clash, shown_sections_have_no_clash,
+    shown_sections_hold,
 };

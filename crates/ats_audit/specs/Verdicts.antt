@@ -10,7 +10,7 @@ use Rattle.ats_proof.specs.Value.{Proof}
 use Rattle.ats_client.specs.Bytes.{IsAcceptedBytes, IsRejectedBytes}
 use Rattle.ats_client.specs.Headline.{AreRight}
 use Rattle.ats_client.specs.Rows.{rows_of}
-use Rattle.ats_client.specs.Strings.{extract}
+use Rattle.ats_client.specs.Strings.{proof_collision}
 use Rattle.ats_refusal.specs.declared.proof.Rejection.TheVariants.{Shape, Check}
 use Rattle.ats_audit.specs.declared.auditing.Verdict.{Verdict}
 use Rattle.ats_audit.specs.declared.auditing.Verdict.TheVariants.{BadShape, Refused, Right, Collision}
@@ -20,7 +20,7 @@ use Rattle.ats_audit.specs.declared.auditing.Verdict.TheVariants.{BadShape, Refu
 pub record IsFoundRight (H : List ℕ → List ℕ) (archive : Archive) (query : List (List ℕ × ℕ)) (r : ℕ) (bytes : List ℕ) (rows : List Row) : Type 0 where
   pub proof : Proof
   pub accepted : IsAcceptedBytes H (root_of H archive) query r bytes proof
-  pub none : extract H archive query proof ≡ None
+  pub none : proof_collision H archive query proof ≡ None
   pub answer : rows ≡ rows_of query proof
   pub right : AreRight archive.texts query r rows
 
@@ -28,7 +28,7 @@ pub record IsFoundRight (H : List ℕ → List ℕ) (archive : Archive) (query :
 pub record IsFoundCollision (H : List ℕ → List ℕ) (archive : Archive) (query : List (List ℕ × ℕ)) (r : ℕ) (bytes : List ℕ) (collision : Difference Place) : Type 0 where
   pub proof : Proof
   pub accepted : IsAcceptedBytes H (root_of H archive) query r bytes proof
-  pub found : extract H archive query proof ≡ Some collision
+  pub found : proof_collision H archive query proof ≡ Some collision
 
 -- the verdict on the bytes against the archive
 abbrev pub IsVerdict : (List ℕ → List ℕ) → Archive → List (List ℕ × ℕ) → ℕ → List ℕ → Verdict → Type 0

@@ -10,7 +10,7 @@ use Rattle.ats_auditors.specs.Gathered.{content, size, total}
 use Rattle.ats_console.specs.Stops.{line_of_long_proofs}
 use Rattle.ats_console.specs.Steps.{no_more, comes_to}
 use Rattle.ats_auditors.specs.Inner.Sweeping.{entry_names}
-use Rattle.ats_auditors.specs.Commands.Sweep.{reads_gathered, gathers, PassesRoom}
+use Rattle.ats_auditors.specs.Commands.Sweep.{reads_gathered, gathers, PassesSweepLimit}
 use Rattle.ats_auditors.specs.declared.gathering.Gathered.{Gathered}
 use Rattle.ats_auditors.specs.declared.listing.Entry.{Entry}
 use Rattle.ats_console.specs.declared.stops.Stop.{Stop}
@@ -49,7 +49,7 @@ module _ (before mid : ShelfTold) (entries : List Entry) (i : ℕ) (entry : Entr
     (proofs : List Gathered) (count : ℕ) (so_far : AreSoFar before mid entries i proofs count) where
   -- the steps for the next proof, and those after it
   abbrev next_steps : (List Gathered → Plan Stop) → Gathered → Plan Stop
-  next_steps rest proof = Tries (total (proofs ++ proof ∷ []) ≤ 2 ^ 28) (PassesRoom (total (proofs ++ proof ∷ [])))
+  next_steps rest proof = Tries (total (proofs ++ proof ∷ []) ≤ 2 ^ 28) (PassesSweepLimit (total (proofs ++ proof ∷ [])))
       (gathers (proofs ++ proof ∷ []) (entry_names (drop (i + 1) entries)) rest)
 
   left_next : (rest : List Gathered → Plan Stop) → IsLeft rest before mid entries i proofs
@@ -77,7 +77,7 @@ module _ (before mid : ShelfTold) (entries : List Entry) (i : ℕ) (entry : Entr
     pub passes_at : (stop : Stop) → stop ≡ Input (line_of_long_proofs (count + length bytes)) → 2 ^ 28 < count + length bytes
         → IsStopped Shelf Memory (gathers [] (entry_names entries) (λ all. no_more)) before now stop
     passes_at stop printed passes = (tried (λ all. no_more) so_far.stopped).stops now stop
-        (at_try (subst (λ (n : ℕ). PassesRoom n stop) counts (passes, printed)))
+        (at_try (subst (λ (n : ℕ). PassesSweepLimit n stop) counts (passes, printed)))
 
     -- memory ran out after it
     pub memory_at : IsStopped Shelf Memory (gathers [] (entry_names entries) (λ all. no_more)) before now Memory

@@ -7,7 +7,7 @@ use Rattle.ats_audit.specs.Sweeps.{IsVerdictOf}
 use Rattle.ats_audit.specs.declared.auditing.Verdict.{Verdict}
 use Rattle.ats_audit.specs.declared.auditing.Verdict.TheVariants as verdict
 use Rattle.ats_audit.specs.declared.sweeping.Job.{Job}
-use Rattle.ats_client.proofs.Public.{extract-collides}
+use Rattle.ats_client.proofs.Public.{collision-collides}
 use Rattle.ats_terms.specs.Query.{IsQueryOf}
 use Rattle.ats_plan.specs.Files.{Files}
 use Rattle.ats_auditors.specs.Listed.{Listed}
@@ -68,7 +68,7 @@ module _ (H : List ℕ → List ℕ) (archive : Archive) where
   whole_is line query asked bytes (verdict.Refused refusal) is = (query, asked, is)
   whole_is line query asked bytes (verdict.Right rows) is = (query, asked, is)
   whole_is line query asked bytes (verdict.Collision place ours theirs) is =
-      let two = extract-collides H archive query is.proof _ is.found in (query, asked, is, two.0, two.1)
+      let two = collision-collides H archive query is.proof _ is.found in (query, asked, is, two.0, two.1)
 
   found_is : (line : List ℕ) (entry : Entry) (is : IsEntry line entry) (proof : Gathered) (job : Job) (found : Verdict) → IsJobOf entry proof job
       → IsVerdictOf H archive job found → IsFinding H archive is.listed proof (finding_of proof found)

@@ -8,8 +8,8 @@ use Rattle.ats_proof.specs.Value.{Proof}
 use Rattle.ats_console.proofs.Public.{one_accepted}
 use Rattle.ats_client.specs.Bytes.{IsRejectedBytes, IsAcceptedBytes}
 use Rattle.ats_client.specs.Rows.{rows_of}
-use Rattle.ats_client.specs.Strings.{extract}
-use Rattle.ats_client.proofs.Public.{accepted_kept, one_rejection}
+use Rattle.ats_client.specs.Strings.{proof_collision}
+use Rattle.ats_client.proofs.Public.{accepted_not_refused, one_rejection}
 use Rattle.ats_audit.specs.Verdicts.{IsFoundRight, IsFoundCollision}
 use Rattle.ats_auditors.specs.Listed.{Listed}
 use Rattle.ats_auditors.specs.Findings.{Finding, FoundRight, FoundRefused, FoundCollision, IsFinding, AreFindings}
@@ -25,30 +25,30 @@ module _ (H : List ℕ → List ℕ) (archive : Archive) (query : List (List ℕ
   IsFound (FoundRefused rejection) = IsRejectedBytes H (root_of H archive) query r bytes rejection
   IsFound (FoundCollision collision) = IsFoundCollision H archive query r bytes collision
 
-  same_extract : (a b : Proof) → IsAcceptedBytes H (root_of H archive) query r bytes a → IsAcceptedBytes H (root_of H archive) query r bytes b
-      → extract H archive query a ≡ extract H archive query b
-  same_extract a b is also = ap (extract H archive query) (one_accepted H (root_of H archive) query r bytes a b is also)
+  same_collision : (a b : Proof) → IsAcceptedBytes H (root_of H archive) query r bytes a → IsAcceptedBytes H (root_of H archive) query r bytes b
+      → proof_collision H archive query a ≡ proof_collision H archive query b
+  same_collision a b is also = ap (proof_collision H archive query) (one_accepted H (root_of H archive) query r bytes a b is also)
 
   one_of_bytes : (a b : Finding) → IsFound a → IsFound b → a ≡ b
   one_of_bytes (FoundRight rows) (FoundRight others) is also =
       let proofs = one_accepted H (root_of H archive) query r bytes is.proof also.proof is.accepted also.accepted in
       ap FoundRight (is.answer ∙ ap (rows_of query) proofs ∙ sym also.answer)
   one_of_bytes (FoundRight rows) (FoundRefused rejection) is also =
-      absurd (accepted_kept H (root_of H archive) query r bytes is.proof rejection is.accepted also)
+      absurd (accepted_not_refused H (root_of H archive) query r bytes is.proof rejection is.accepted also)
   one_of_bytes (FoundRight rows) (FoundCollision collision) is also =
-      absurd (none_found collision (sym is.none ∙ same_extract is.proof also.proof is.accepted also.accepted ∙ also.found))
+      absurd (none_found collision (sym is.none ∙ same_collision is.proof also.proof is.accepted also.accepted ∙ also.found))
   one_of_bytes (FoundRefused rejection) (FoundRight rows) is also =
-      absurd (accepted_kept H (root_of H archive) query r bytes also.proof rejection also.accepted is)
+      absurd (accepted_not_refused H (root_of H archive) query r bytes also.proof rejection also.accepted is)
   one_of_bytes (FoundRefused rejection) (FoundRefused other) is also =
       ap FoundRefused (one_rejection H (root_of H archive) query r bytes rejection other is also)
   one_of_bytes (FoundRefused rejection) (FoundCollision collision) is also =
-      absurd (accepted_kept H (root_of H archive) query r bytes also.proof rejection also.accepted is)
+      absurd (accepted_not_refused H (root_of H archive) query r bytes also.proof rejection also.accepted is)
   one_of_bytes (FoundCollision collision) (FoundRight rows) is also =
-      absurd (none_found collision (sym also.none ∙ same_extract also.proof is.proof also.accepted is.accepted ∙ is.found))
+      absurd (none_found collision (sym also.none ∙ same_collision also.proof is.proof also.accepted is.accepted ∙ is.found))
   one_of_bytes (FoundCollision collision) (FoundRefused rejection) is also =
-      absurd (accepted_kept H (root_of H archive) query r bytes is.proof rejection is.accepted also)
+      absurd (accepted_not_refused H (root_of H archive) query r bytes is.proof rejection is.accepted also)
   one_of_bytes (FoundCollision collision) (FoundCollision other) is also =
-      ap FoundCollision (one_found collision other (sym is.found ∙ same_extract is.proof also.proof is.accepted also.accepted ∙ also.found))
+      ap FoundCollision (one_found collision other (sym is.found ∙ same_collision is.proof also.proof is.accepted also.accepted ∙ also.found))
 
 module _ (H : List ℕ → List ℕ) (archive : Archive) (line : Listed) where
   -- a finding is for the query of its line

@@ -1,4 +1,4 @@
--- A trial is served or refused, in one way.
+-- A trial is accepted or refused, in one way.
 use Rattle.std.proofs.Common.{◌≡◌, ◌≢◌, ◌∙◌, ◌^◌, ℕ, List, refl, sym, ap, subst, inl, inr, arith}
 use Rattle.std.proofs.lemmas.Bool.{cases_order}
 use Rattle.ats_terms.specs.Query.{IsQueryOf}
@@ -8,7 +8,7 @@ use Rattle.ats_proof.specs.Value.{Proof}
 use Rattle.ats_proof.specs.declared.record.Algorithm.{Algorithm}
 use Rattle.ats_proof.specs.declared.record.Algorithm.TheVariants.{Tra, Tnra}
 use Rattle.ats_honest.specs.Honest.{IsHonest, IsTooLong}
-use Rattle.ats_auditors.specs.Trial.{trial_archive, turn, IsTrialProof, AreQueries, IsTrialQueryRefused, IsTrialTooLong, IsTrialRefused, IsTrialServed, RefusesTrial}
+use Rattle.ats_auditors.specs.Trial.{trial_archive, turn, IsTrialProof, AreQueries, IsTrialQueryRefused, IsTrialTooLong, IsTrialRefused, IsTrialAccepted, RefusesTrial}
 use Rattle.ats_console.specs.Stops.{line_of_long_proof, stop_of_query}
 use Rattle.ats_console.specs.declared.stops.Stop.{Stop}
 use Rattle.ats_console.specs.declared.stops.Stop.TheVariants.{Input, Memory}
@@ -37,8 +37,8 @@ same_algorithm i k Tnra Tnra same = refl
 
 module _ (number : ℕ) where
   -- texts that are queries are not refused
-  queries_kept : AreQueries number 20 → (line : List ℕ) → IsTrialQueryRefused number line → ⊥
-  queries_kept asks line refused =
+  queries_not_refused : AreQueries number 20 → (line : List ℕ) → IsTrialQueryRefused number line → ⊥
+  queries_not_refused asks line refused =
       no_query_fault (trial_query number refused.i) refused.fault (asks refused.i refused.inside) (line_free line _ refused.same) refused.first
 
   one_of_queries : (a b : List ℕ) → IsTrialQueryRefused number a → IsTrialQueryRefused number b → a ≡ b
@@ -87,14 +87,14 @@ module _ (H : List ℕ → List ℕ) (number : ℕ) where
 
   one_line : (a b : List ℕ) → IsTrialRefused H number a → IsTrialRefused H number b → a ≡ b
   one_line a b (inl is) (inl also) = one_of_queries number a b is also
-  one_line a b (inl is) (inr (size, also, same)) = absurd (queries_kept number also.asked a is)
-  one_line a b (inr (size, is, same)) (inl also) = absurd (queries_kept number is.asked b also)
+  one_line a b (inl is) (inr (size, also, same)) = absurd (queries_not_refused number also.asked a is)
+  one_line a b (inr (size, is, same)) (inl also) = absurd (queries_not_refused number is.asked b also)
   one_line a b (inr (size, is, same)) (inr (other, also, like)) = same ∙ ap line_of_long_proof (one_too_long size other is also) ∙ sym like
 
-  -- a trial that is served is not refused
-  pub trial_kept : (stop : Stop) → RefusesTrial H number stop → IsTrialServed H number → ⊥
-  trial_kept stop (line, inl refused, same) (asks, fits) = queries_kept number asks line refused
-  trial_kept stop (line, inr (size, long, printed), same) (asks, fits) = fits size long
+  -- a trial that is accepted is not refused
+  pub trial_not_refused : (stop : Stop) → RefusesTrial H number stop → IsTrialAccepted H number → ⊥
+  trial_not_refused stop (line, inl refused, same) (asks, fits) = queries_not_refused number asks line refused
+  trial_not_refused stop (line, inr (size, long, printed), same) (asks, fits) = fits size long
 
   -- it is refused in one way
   pub one_trial : (a b : Stop) → RefusesTrial H number a → RefusesTrial H number b → a ≡ b

@@ -14,37 +14,37 @@ use Rattle.ats_console.proofs.Public.{Sound, ends, fails, tries, gets, makes, re
 use Rattle.ats_auditors.specs.Listed.{Listed, lines_of, IsListOf, names_of}
 use Rattle.ats_auditors.specs.Gathered.{total}
 use Rattle.ats_auditors.specs.Findings.{Finding, is_refused, is_collision, lines_of_findings}
-use Rattle.ats_auditors.specs.Trial.{IsTrialServed, RefusesTrial}
+use Rattle.ats_auditors.specs.Trial.{IsTrialAccepted, RefusesTrial}
 use Rattle.ats_auditors.specs.Collided.{finds_none}
 use Rattle.ats_auditors.specs.Commands.Audit.{audit_plan}
 use Rattle.ats_auditors.specs.Commands.AuditFetch.{audit_fetch_plan}
 use Rattle.ats_auditors.specs.Commands.AuditBoth.{audit_both_plan}
 use Rattle.ats_auditors.specs.Commands.AuditGrowth.{audit_growth_plan}
-use Rattle.ats_auditors.specs.Commands.Sweep.{IsListStop, PassesRoom, gathers, concludes, audits, sweeps, sweep_plan}
+use Rattle.ats_auditors.specs.Commands.Sweep.{IsListStop, PassesSweepLimit, gathers, concludes, audits, sweeps, sweep_plan}
 use Rattle.ats_auditors.specs.Commands.Trial.{trial_plan}
 use Rattle.ats_auditors.specs.declared.gathering.Gathered.{Gathered}
 use Rattle.ats_auditors.specs.declared.gathering.Gathered.TheVariants.{Whole, Long}
 use Rattle.ats_auditors.proofs.OneList.{one_list, no_bad_line, one_bad_line}
 use Rattle.ats_auditors.proofs.OneFinding.{one_findings}
 use Rattle.ats_auditors.proofs.OneCollision.{collision_exact}
-use Rattle.ats_auditors.proofs.OneTrial.{trial_kept, one_trial}
+use Rattle.ats_auditors.proofs.OneTrial.{trial_not_refused, one_trial}
 
 none_sound : {P : Type 0} {H : List ℕ → List ℕ} {first : Option (Difference P)} {lines_of : Difference P → List ℕ} {rest : Plan Stop} → Sound rest
     → Sound (finds_none H first lines_of rest)
 none_sound {H = H} {first = first} {lines_of = lines_of} later = tries (collision_exact H first lines_of) (λ stops. not_collision stops.2) later
 
-list_kept : (bytes : List ℕ) (listed : List Listed) (stop : Stop) → IsListStop bytes stop → IsListOf bytes listed → ⊥
-list_kept bytes listed stop (number, bad, same) is = no_bad_line bytes listed is number bad
+list_not_refused : (bytes : List ℕ) (listed : List Listed) (stop : Stop) → IsListStop bytes stop → IsListOf bytes listed → ⊥
+list_not_refused bytes listed stop (number, bad, same) is = no_bad_line bytes listed is number bad
 
 one_list_stop : (bytes : List ℕ) (a b : Stop) → IsListStop bytes a → IsListStop bytes b → a ≡ b
 one_list_stop bytes a b (number, is, same) (other, also, like) =
     same ∙ ap (λ (line : ℕ). Input (line_of_bad_line line)) (one_bad_line (lines_of bytes) number other is also) ∙ sym like
 
 list_one : (bytes : List ℕ) → IsOne (IsListOf bytes) (IsListStop bytes)
-list_one bytes = record { single = one_list bytes; breaks = list_kept bytes; one = one_list_stop bytes }
+list_one bytes = record { single = one_list bytes; breaks = list_not_refused bytes; one = one_list_stop bytes }
 
-room_exact : (bytes : ℕ) → IsExact (bytes ≤ 2 ^ 28) (PassesRoom bytes)
-room_exact bytes = record {
+sweep_limit_exact : (bytes : ℕ) → IsExact (bytes ≤ 2 ^ 28) (PassesSweepLimit bytes)
+sweep_limit_exact bytes = record {
   breaks = λ stop is within. omega (arith, is.0, within);
   one = λ a b is also. is.1 ∙ sym also.1;
 }
@@ -53,8 +53,8 @@ gathers_sound : {rest : List Gathered → Plan Stop} (got : List Gathered) (name
     → Sound (gathers got names rest)
 gathers_sound got [] later = later got
 gathers_sound {rest = rest} got (name ∷ names) later =
-    let next : (proof : Gathered) → Sound (Tries (total (got ++ proof ∷ []) ≤ 2 ^ 28) (PassesRoom (total (got ++ proof ∷ []))) (gathers (got ++ proof ∷ []) names rest)) =
-    λ proof. tries (room_exact (total (got ++ proof ∷ []))) (λ stops. not_input stops.1) (gathers_sound {rest = rest} (got ++ proof ∷ []) names later) in
+    let next : (proof : Gathered) → Sound (Tries (total (got ++ proof ∷ []) ≤ 2 ^ 28) (PassesSweepLimit (total (got ++ proof ∷ []))) (gathers (got ++ proof ∷ []) names rest)) =
+    λ proof. tries (sweep_limit_exact (total (got ++ proof ∷ []))) (λ stops. not_input stops.1) (gathers_sound {rest = rest} (got ++ proof ∷ []) names later) in
     reads (next Long) (λ bytes. next (Whole bytes))
 
 -- a test that is to be false
@@ -74,8 +74,8 @@ sweeps_sound H words archive bytes =
     gets (list_one bytes) (λ stops. not_input stops.2) (λ listed. gathers_sound {rest = audits H words archive listed} [] (names_of listed)
     (λ proofs. makes (one_findings H archive listed proofs) (λ findings. concludes_sound findings ends)))
 
-trial_exact : (H : List ℕ → List ℕ) (number : ℕ) → IsExact (IsTrialServed H number) (RefusesTrial H number)
-trial_exact H number = record { breaks = trial_kept H number; one = one_trial H number }
+trial_exact : (H : List ℕ → List ℕ) (number : ℕ) → IsExact (IsTrialAccepted H number) (RefusesTrial H number)
+trial_exact H number = record { breaks = trial_not_refused H number; one = one_trial H number }
 
 module _ (H : List ℕ → List ℕ) where
   pub audit_sound : (words : AuditWords) → Sound (audit_plan H words)

@@ -15,9 +15,9 @@ use Rattle.ats_proof.specs.Value.{Prefix, Proof, IsProof, IsSpelled, kind_of_slo
 use Rattle.ats_proof.specs.declared.record.Slot.{Slot}
 use Rattle.ats_proof.proofs.Public.{one_value}
 use Rattle.ats_honest.specs.Honest.{IsHonest, IsProved, IsTooLong, length_of}
-use Rattle.ats_client.specs.Strings.{extract}
+use Rattle.ats_client.specs.Strings.{proof_collision}
 use Rattle.ats_refusal.specs.declared.proof.Rejection.TheVariants.{Shape, Check}
-use Rattle.ats_client.proofs.Public.{accepted_kept}
+use Rattle.ats_client.proofs.Public.{accepted_not_refused}
 use Rattle.ats_audit.specs.Verdicts.{IsVerdict}
 use Rattle.ats_audit.specs.declared.auditing.Verdict.{Verdict}
 use Rattle.ats_audit.specs.declared.auditing.Verdict.TheVariants.{BadShape, Refused, Right, Collision}
@@ -33,7 +33,7 @@ use Rattle.ats_plan.proofs.Public.{done_try, done_end, at_memory, at_try}
 use Rattle.ats_auditors.specs.Commands.Trial.{trial_plan}
 use Rattle.ats_console.specs.Stops.{stop_of_query, line_of_long_proof}
 use Rattle.ats_console.specs.Print.{line_of_root}
-use Rattle.ats_auditors.specs.Trial.{line_of_proofs, lines_of_trial, shown_entries, trial_archive, turn, IsTried, AreQueries, AreTrialProofs, IsTrialProof, IsTrial, IsTrialTooLong, IsTrialServed}
+use Rattle.ats_auditors.specs.Trial.{line_of_proofs, lines_of_trial, shown_entries, trial_archive, turn, IsTried, AreQueries, AreTrialProofs, IsTrialProof, IsTrial, IsTrialTooLong, IsTrialAccepted}
 use Rattle.ats_auditors.specs.Inner.Trial.{tally_of, counted, AreTried, AreTriedLines, AreTrialQueries, is_right, IsTryStop, IsTriesStop, IsTrialStop}
 use Rattle.ats_console.specs.declared.stops.Stop.{Stop}
 use Rattle.ats_console.specs.declared.stops.Stop.TheVariants.{Shelf, Input, Memory}
@@ -84,14 +84,14 @@ none_found found x none some = let both = sym none ∙ some in cc
 pub audited_right : (H : List ℕ → List ℕ) (archive : Archive) (query : List (List ℕ × ℕ)) (algorithm : Algorithm) (bytes : List ℕ) (proof : Proof) (verdict : Verdict)
     → IsProved H archive query 10 algorithm bytes → IsProof bytes proof → IsVerdict H archive query 10 bytes verdict → is_right verdict ≡ true
 audited_right H archive query algorithm bytes proof (BadShape fault) is says found =
-    absurd (accepted_kept H (root_of H archive) query 10 bytes proof (Shape fault)
+    absurd (accepted_not_refused H (root_of H archive) query 10 bytes proof (Shape fault)
     (record { says = says; accepts = proved_accepted H archive query 10 algorithm bytes is proof says }) found)
 audited_right H archive query algorithm bytes proof (Refused refusal) is says found =
-    absurd (accepted_kept H (root_of H archive) query 10 bytes proof (Check refusal)
+    absurd (accepted_not_refused H (root_of H archive) query 10 bytes proof (Check refusal)
     (record { says = says; accepts = proved_accepted H archive query 10 algorithm bytes is proof says }) found)
 audited_right H archive query algorithm bytes proof (Right rows) is says found = refl
 audited_right H archive query algorithm bytes proof (Collision place ours theirs) is says found =
-    absurd (none_found (extract H archive query found.proof) _ (proved_unclashing H archive query 10 algorithm bytes is found.proof found.accepted.says) found.found)
+    absurd (none_found (proof_collision H archive query found.proof) _ (proved_unclashing H archive query 10 algorithm bytes is found.proof found.accepted.says) found.found)
 
 -- ---- the tally
 
@@ -214,7 +214,7 @@ pub at_query : (queries : List (List (List ℕ × ℕ))) (i : ℕ) (query : List
     → i < length queries → query ≡ get_or queries i query → P query → (d : List (List ℕ × ℕ)) → P (get_or queries i d)
 at_query queries i query P inside here holds d = subst P (get_or_read queries i query inside here d) holds
 
--- ---- a trial that is done was served
+-- ---- a trial that is done was accepted
 
 proof_at : (H : List ℕ → List ℕ) (number : ℕ) (algorithm : Algorithm) (proofs : List Proof) → AreTrialProofs H number algorithm proofs
     → (i : ℕ) → i < length proofs → (proof : Proof) × IsTrialProof H number algorithm i proof
@@ -227,8 +227,8 @@ module _ (H : List ℕ → List ℕ) (number : ℕ) (text : List ℕ) (tried : I
   tried_at Tnra i inside = proof_at H number Tnra tried.tnra tried.tnra_are i (omega (arith, inside, tried.tnra_each))
 
   -- its texts are queries, and no proof is too long
-  trial_served : IsTrialServed H number
-  trial_served = (
+  trial_accepted : IsTrialAccepted H number
+  trial_accepted = (
     λ i inside. (tried_at Tra i inside).1.asked.has,
     λ bytes long.
         let found = tried_at long.algorithm long.i long.inside in
@@ -239,7 +239,7 @@ module _ (H : List ℕ → List ℕ) (number : ℕ) (text : List ℕ) (tried : I
 
 module _ (H : List ℕ → List ℕ) (number : ℕ) (shelf : ShelfTold) where
   trial_done : (text : List ℕ) → IsTrial H number text → IsDone (trial_plan H (record { number = number })) shelf shelf text
-  trial_done text is = done_try (trial_served H number text is) (done_end is)
+  trial_done text is = done_try (trial_accepted H number text is) (done_end is)
 
   pub trial_stopped : (stop : Stop) → IsTrialStop H number stop → IsStopped Shelf Memory (trial_plan H (record { number = number })) shelf shelf stop
   trial_stopped stop (inl memory) = subst (IsStopped Shelf Memory (trial_plan H (record { number = number })) shelf shelf) (sym memory) at_memory

@@ -6,8 +6,8 @@ use Rattle.ats_tree.specs.declared.hashed.Place.{Place}
 use Rattle.ats_commit.specs.Archive.{Archive}
 use Rattle.ats_commit.specs.Root.{root_of}
 use Rattle.ats_proof.specs.Value.{Proof}
-use Rattle.ats_client.specs.Strings.{extract}
-use Rattle.ats_inclusion.specs.Strings.{TextPlace, text_extract}
+use Rattle.ats_client.specs.Strings.{proof_collision}
+use Rattle.ats_inclusion.specs.Strings.{TextPlace, text_collision}
 use Rattle.ats_inclusion.specs.Value.{TextProof}
 use Rattle.ats_consistency.specs.Strings.{Beside}
 use Rattle.ats_consistency.specs.Strings as growth
@@ -28,7 +28,7 @@ pub record Audit (V P : Type 0) : Type 1 where
 abbrev pub proof_audit : (List ℕ → List ℕ) → Archive → List (List ℕ × ℕ) → (r : ℕ) → Audit Proof Place
 proof_audit H archive query r = record {
   kind = proof_kind H (root_of H archive) query r;
-  first = extract H archive query;
+  first = proof_collision H archive query;
   lines_of = lines_of_proof_collision;
 }
 
@@ -36,7 +36,7 @@ proof_audit H archive query r = record {
 abbrev pub both_audit : (List ℕ → List ℕ) → Archive → List (List ℕ × ℕ) → Audit Proof Place
 both_audit H archive query = record {
   kind = both_kind H (root_of H archive) query;
-  first = extract H archive query;
+  first = proof_collision H archive query;
   lines_of = lines_of_proof_collision;
 }
 
@@ -44,7 +44,7 @@ both_audit H archive query = record {
 abbrev pub text_audit : (List ℕ → List ℕ) → Archive → (doc : ℕ) → Audit TextProof TextPlace
 text_audit H archive doc = record {
   kind = text_kind H (root_of H archive) doc;
-  first = text_extract H archive doc;
+  first = text_collision H archive doc;
   lines_of = lines_of_text_collision;
 }
 
@@ -52,7 +52,7 @@ text_audit H archive doc = record {
 abbrev pub growth_audit : (List ℕ → List ℕ) → (older newer : Archive) → Audit Growth Beside
 growth_audit H older newer = record {
   kind = growth_kind H (root_of H older) (root_of H newer);
-  first = growth.extract H older newer;
+  first = growth.growth_collision H older newer;
   lines_of = lines_of_growth_collision;
 }
 

@@ -10,7 +10,7 @@ use Rattle.ats_proof.specs.declared.record.Algorithm.{Algorithm}
 use Rattle.ats_proof.specs.declared.record.Algorithm.TheVariants.{Tra, Tnra}
 use Rattle.ats_proof.specs.Value.{Prefix, Proof}
 use Rattle.ats_client.specs.Accepts.{Accepts}
-use Rattle.ats_client.specs.Strings.{extract}
+use Rattle.ats_client.specs.Strings.{proof_collision}
 use Rattle.ats_honest.specs.Honest.{IsHonest, IsTooLong, length_of}
 use Rattle.ats_console.specs.Print.{line_of_root}
 use Rattle.ats_console.specs.Stops.{line_of_long_proof, stop_of_query}
@@ -31,7 +31,7 @@ pub record IsTried (H : List ℕ → List ℕ) (archive : Archive) (query : List
   pub honest : IsHonest H archive query 10 algorithm proof
   pub short : length_of proof ≤ 2 ^ 26
   pub accepted : Accepts H (root_of H archive) query 10 proof
-  pub right : extract H archive query proof ≡ None
+  pub right : proof_collision H archive query proof ≡ None
 
 -- the proof is such a one for the trial's query with this number
 pub record IsTrialProof (H : List ℕ → List ℕ) (number : ℕ)
@@ -106,8 +106,8 @@ IsTrialRefused H number line = IsTrialQueryRefused number line
     ⊎ ((bytes : ℕ) × IsTrialTooLong H number bytes × (line ≡ line_of_long_proof bytes))
 
 -- all of its texts are queries, and no honest proof of one is too long
-abbrev pub IsTrialServed : (List ℕ → List ℕ) → ℕ → Type 0
-IsTrialServed H number = AreQueries number 20 × ((bytes : ℕ) → IsTrialTooLong H number bytes → ⊥)
+abbrev pub IsTrialAccepted : (List ℕ → List ℕ) → ℕ → Type 0
+IsTrialAccepted H number = AreQueries number 20 × ((bytes : ℕ) → IsTrialTooLong H number bytes → ⊥)
 
 -- the line is that of the first text that is no query, or of the first proof that is too long
 abbrev pub RefusesTrial : (List ℕ → List ℕ) → (number : ℕ) → Stop → Type 0

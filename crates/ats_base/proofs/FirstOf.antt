@@ -43,12 +43,12 @@ one_first_of {X} {F} Keeps Fails xs a b breaks one is also =
     (λ more right. breaks also.one b also.fault (all_middle Keeps also.before also.one more right)) in
     one is.one a b is.fault (subst (λ (x : X). Fails x b) (sym same.1) also.fault)
 
-pub kept_or_first_of : {X F : Type 0} (Keeps : X → Type 0) (Fails : X → F → Type 0) (xs : List X) → ((x : X) → Keeps x ⊎ ((fault : F) × Fails x fault))
+pub hold_or_first_of : {X F : Type 0} (Keeps : X → Type 0) (Fails : X → F → Type 0) (xs : List X) → ((x : X) → Keeps x ⊎ ((fault : F) × Fails x fault))
     → All Keeps xs ⊎ ((fault : F) × IsFirstOf Keeps Fails xs fault)
-kept_or_first_of Keeps Fails [] tried = inl (All-nil Keeps)
-kept_or_first_of {X} {F} Keeps Fails (x ∷ xs) tried = elim (tried x) [
+hold_or_first_of Keeps Fails [] tried = inl (All-nil Keeps)
+hold_or_first_of {X} {F} Keeps Fails (x ∷ xs) tried = elim (tried x) [
   | inr fails ↦ inr (fails.0, record { before = []; one = x; after = xs; stands = refl; right = All-nil Keeps; fault = fails.1 })
-  | inl keeps ↦ elim (kept_or_first_of Keeps Fails xs tried) [
+  | inl keeps ↦ elim (hold_or_first_of Keeps Fails xs tried) [
     | inl all ↦ inl (All-cons Keeps x xs keeps all)
     | inr first ↦ inr (
       first.0,

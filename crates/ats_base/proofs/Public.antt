@@ -13,11 +13,11 @@ pub use Rattle.ats_base.proofs.Exchanges.{exchanged_then}
 -- what a group of rules must satisfy for there to be one first failure, and that each of some groups does
 pub use Rattle.ats_base.proofs.Rules.{IsExact, AreExact}
 -- if a group fails first, not all hold
-pub use Rattle.ats_base.proofs.Rules.{not_kept}
+pub use Rattle.ats_base.proofs.Rules.{not_all_hold}
 -- there is one first failure of groups
 pub use Rattle.ats_base.proofs.Rules.{one_first}
 -- if each group holds or fails, all hold or one fails first
-pub use Rattle.ats_base.proofs.Rules.{AreTried, kept_or_first}
+pub use Rattle.ats_base.proofs.Rules.{AreTried, hold_or_first}
 -- what all elements satisfy, one in the middle satisfies
 pub use Rattle.ats_base.proofs.FirstOf.{all_middle}
 -- two fronts of a list that satisfy a rule, each before an element that breaks it whatever follows, are the same
@@ -27,4 +27,4 @@ pub use Rattle.ats_base.proofs.FirstOf.{Breaks, not_first_of}
 -- there is one first element that breaks its rules, with one fault
 pub use Rattle.ats_base.proofs.FirstOf.{one_first_of}
 -- if each element satisfies its rules or breaks them, all do or one breaks them first
-pub use Rattle.ats_base.proofs.FirstOf.{kept_or_first_of}
+pub use Rattle.ats_base.proofs.FirstOf.{hold_or_first_of}

@@ -1,6 +1,6 @@
 -- Laws of groups of rules that are checked one after another.
 use Rattle.std.proofs.Common.{◌≡◌, ◌⊎◌, List, [], ◌∷◌, inl, inr}
-use Rattle.ats_base.specs.Rules.{Group, AreKept, IsFirstFault}
+use Rattle.ats_base.specs.Rules.{Group, AllHold, IsFirstFault}
 
 -- a group that fails is not kept, and fails in one way
 pub record IsExact {F : Type 0} (group : Group F) : Type 0 where
@@ -12,10 +12,10 @@ AreExact [] = Unit {0}
 AreExact (group ∷ groups) = IsExact group × AreExact groups
 
 -- if a group fails first, not all hold
-pub not_kept : {F : Type 0} (groups : List (Group F)) (fault : F) → AreExact groups → IsFirstFault groups fault → AreKept groups → ⊥
-not_kept [] fault exact is kept = is
-not_kept (group ∷ groups) fault exact (inl is) kept = exact.0.breaks fault is kept.0
-not_kept (group ∷ groups) fault exact (inr later) kept = not_kept groups fault exact.1 later.1 kept.1
+pub not_all_hold : {F : Type 0} (groups : List (Group F)) (fault : F) → AreExact groups → IsFirstFault groups fault → AllHold groups → ⊥
+not_all_hold [] fault exact is kept = is
+not_all_hold (group ∷ groups) fault exact (inl is) kept = exact.0.breaks fault is kept.0
+not_all_hold (group ∷ groups) fault exact (inr later) kept = not_all_hold groups fault exact.1 later.1 kept.1
 
 -- there is one first failure
 pub one_first : {F : Type 0} (groups : List (Group F)) (a b : F) → AreExact groups → IsFirstFault groups a → IsFirstFault groups b → a ≡ b
@@ -30,10 +30,10 @@ abbrev pub AreTried : {F : Type 0} → List (Group F) → Type 0
 AreTried [] = Unit {0}
 AreTried {F} (group ∷ groups) = (group.kept ⊎ ((fault : F) × group.fault fault)) × AreTried groups
 
-pub kept_or_first : {F : Type 0} (groups : List (Group F)) → AreTried groups → AreKept groups ⊎ ((fault : F) × IsFirstFault groups fault)
-kept_or_first [] tried = inl tt
-kept_or_first (group ∷ groups) (inr fails, later) = inr (fails.0, inl fails.1)
-kept_or_first (group ∷ groups) (inl kept, later) = elim (kept_or_first groups later) [
+pub hold_or_first : {F : Type 0} (groups : List (Group F)) → AreTried groups → AllHold groups ⊎ ((fault : F) × IsFirstFault groups fault)
+hold_or_first [] tried = inl tt
+hold_or_first (group ∷ groups) (inr fails, later) = inr (fails.0, inl fails.1)
+hold_or_first (group ∷ groups) (inl kept, later) = elim (hold_or_first groups later) [
   | inl all ↦ inl (kept, all)
   | inr first ↦ inr (first.0, inr (kept, first.1))
 ]

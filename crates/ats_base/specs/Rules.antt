@@ -7,9 +7,9 @@ pub record Group (F : Type 0) : Type 1 where
   pub kept : Type 0
   pub fault : F → Type 0
 
-abbrev pub AreKept : {F : Type 0} → List (Group F) → Type 0
-AreKept [] = Unit {0}
-AreKept (group ∷ groups) = group.kept × AreKept groups
+abbrev pub AllHold : {F : Type 0} → List (Group F) → Type 0
+AllHold [] = Unit {0}
+AllHold (group ∷ groups) = group.kept × AllHold groups
 
 -- the failure of the first group that fails; all groups before it hold
 abbrev pub IsFirstFault : {F : Type 0} → List (Group F) → F → Type 0

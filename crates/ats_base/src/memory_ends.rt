@@ -11,10 +11,10 @@ ghost use Rattle.ats_base.specs.Outside.{HasCause};
 ghost use Rattle.ats_base.specs.Links.{IsNew, IsCalledAt, calling_out, called_back, MayNoteCall, noting_listen, MayNoteListen, counting_accept, accepting_out, accepted_back, counted_broken};
 
 use crate::bytes::{Bytes, OutOfMemory};
+use crate::fault_plan::FaultPlan;
 use crate::links::{Caller, Door};
 use crate::memory_link::MemLink;
 use crate::outside::Failed;
-use crate::plan::Plan;
 use std::alloc::Global;
 use std::collections::VecDeque;
 use std::marker::Model;
@@ -103,7 +103,7 @@ pub struct MemCaller {
     alloc: Global,
     links: Links,
     addresses: Vec<Bytes>,
-    plan: Plan,
+    plan: FaultPlan,
 }
 
 impl Model for MemCaller {
@@ -124,7 +124,7 @@ impl MemCaller {
             alloc,
             links: Links::new(alloc),
             addresses: Vec::new(alloc),
-            plan: Plan::new(alloc),
+            plan: FaultPlan::new(alloc),
         }
     }
 
@@ -250,7 +250,7 @@ pub struct MemDoor {
     accepts: u64,
     is_open: bool,
     broken: u64,
-    plan: Plan,
+    plan: FaultPlan,
 }
 
 impl Model for MemDoor {
@@ -284,7 +284,7 @@ impl MemDoor {
             accepts: 0,
             is_open: false,
             broken: 0,
-            plan: Plan::new(alloc),
+            plan: FaultPlan::new(alloc),
         }
     }
 

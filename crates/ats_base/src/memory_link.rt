@@ -7,9 +7,9 @@ ghost use Rattle.ats_base.specs.Outside.{HasCause, MovesSome, IsCounted, moved};
 ghost use Rattle.ats_base.specs.Links.{Exchanged, IsAtEnd};
 
 use crate::bytes::{Bytes, OutOfMemory};
+use crate::fault_plan::FaultPlan;
 use crate::links::Link;
 use crate::outside::Failed;
-use crate::plan::Plan;
 use std::alloc::Global;
 use std::marker::Model;
 
@@ -21,7 +21,7 @@ pub struct MemLink {
     incoming: Bytes,
     place: usize,
     written: Bytes,
-    plan: Plan,
+    plan: FaultPlan,
 }
 
 impl Model for MemLink {
@@ -49,7 +49,7 @@ impl MemLink {
             incoming,
             place: 0,
             written: Bytes::new(alloc),
-            plan: Plan::new(alloc),
+            plan: FaultPlan::new(alloc),
         }
     }
 

@@ -2,7 +2,7 @@
 use Rattle.std.proofs.Common.{◌≡◌, ◌<◌, ◌≤◌, ◌∙◌, ℕ, true, List, [], ◌∷◌, length, map, get_or, Option, Some, None, refl, sym, ap, inl, inr, arith}
 use Rattle.std.proofs.lemmas.Bool.{cases_Bool}
 use Rattle.std.proofs.lemmas.List.{length-map}
-use Rattle.ats_base.specs.Rules.{AreKept}
+use Rattle.ats_base.specs.Rules.{AllHold}
 use Rattle.ats_dict.specs.declared.spot.Spot.{Spot}
 use Rattle.ats_dict.specs.declared.spot.Spot.TheVariants.{At, Between}
 use Rattle.ats_commit.specs.Archive.{Archive}
@@ -67,7 +67,7 @@ module _ (H : List ℕ → List ℕ) (archive : Archive) (query : List (List ℕ
   ]
 
   -- if the rules of what the proof shows are kept, the proof of a query with a term is accepted
-  pub both_accepted : 1 ≤ length query → AreKept (section_rules H (root_of H archive) query proof) → SeesWhole → AcceptsBoth H (root_of H archive) query proof
+  pub both_accepted : 1 ≤ length query → AllHold (section_rules H (root_of H archive) query proof) → SeesWhole → AcceptsBoth H (root_of H archive) query proof
   both_accepted some kept sees = record {
     kept = (
       by_tra H archive.texts (present archive.texts query) proof.met proof.docs made.shows.docs,

@@ -7,7 +7,7 @@ use Rattle.ats_grammar.specs.Front.{IsBad}
 use Rattle.ats_grammar.specs.Grammar.{proof_schema}
 use Rattle.ats_proof.specs.Value.{Proof}
 use Rattle.ats_client.specs.Sections.{difference_of}
-use Rattle.ats_client.specs.Strings.{extract}
+use Rattle.ats_client.specs.Strings.{proof_collision}
 use Rattle.ats_client.specs.declared.clashing.Clash.{Clash}
 use Rattle.ats_conjunction.specs.Bytes.{AreAcceptedBytes, AreRefusedBytes}
 use Rattle.ats_conjunction.specs.Documents.{both, documents_shown}
@@ -19,22 +19,22 @@ use Rattle.ats_both.specs.declared.verdict.BothVerdict.TheVariants.{BadShape, Re
 pub record AreFoundRight (H : List ℕ → List ℕ) (archive : Archive) (query : List (List ℕ × ℕ)) (bytes : List ℕ) (documents : List ℕ) : Type 0 where
   pub proof : Proof
   pub accepted : AreAcceptedBytes H (root_of H archive) query bytes proof
-  pub none : extract H archive query proof ≡ None
+  pub none : proof_collision H archive query proof ≡ None
   pub shown : documents ≡ documents_shown proof
   pub right : documents ≡ both archive.texts query
 
 -- the bytes are accepted under the archive's root, and this is their first collision with the archive
-pub record IsFoundCollision (H : List ℕ → List ℕ) (archive : Archive) (query : List (List ℕ × ℕ)) (bytes : List ℕ) (clash : Clash) : Type 0 where
+pub record IsFoundBothCollision (H : List ℕ → List ℕ) (archive : Archive) (query : List (List ℕ × ℕ)) (bytes : List ℕ) (clash : Clash) : Type 0 where
   pub proof : Proof
   pub accepted : AreAcceptedBytes H (root_of H archive) query bytes proof
-  pub found : extract H archive query proof ≡ Some (difference_of clash)
+  pub found : proof_collision H archive query proof ≡ Some (difference_of clash)
 
 -- the verdict on the bytes against the archive
 abbrev pub IsBothVerdict : (List ℕ → List ℕ) → Archive → List (List ℕ × ℕ) → List ℕ → BothVerdict → Type 0
 IsBothVerdict H archive query bytes (BadShape fault) = IsBad proof_schema bytes fault
 IsBothVerdict H archive query bytes (Refused refusal) = AreRefusedBytes H (root_of H archive) query bytes refusal
 IsBothVerdict H archive query bytes (Right documents) = AreFoundRight H archive query bytes documents
-IsBothVerdict H archive query bytes (Collision clash) = IsFoundCollision H archive query bytes clash
+IsBothVerdict H archive query bytes (Collision clash) = IsFoundBothCollision H archive query bytes clash
 
 -- the verdict contains two different strings with equal digests
 abbrev pub TellsBothCollision : (List ℕ → List ℕ) → BothVerdict → Type 0

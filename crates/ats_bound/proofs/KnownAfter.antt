@@ -7,7 +7,7 @@ use Rattle.std.proofs.lemmas.List.Folds.{list_any-append, list_any_at, list_any_
 use Rattle.std.proofs.Math.Seq.{get_or-append_seam, map-set_same}
 use Rattle.ats_bound.specs.declared.known.Met.{Met}
 use Rattle.ats_bound.specs.Cut.{ShownLane, lo_of, names}
-use Rattle.ats_bound.specs.Inner.Front.{named_by}
+use Rattle.ats_bound.specs.Inner.Frontier.{named_by}
 use Rattle.ats_bound.specs.Inner.Known.{AreKnown, IsKnown, IsUnmet, Meets, met_at, more_of}
 use Rattle.ats_bound.proofs.Entered.{Enters, none_named, or_none}
 use Rattle.ats_bound.proofs.One.{other_doc}
@@ -83,7 +83,7 @@ module _ (all after : List ShownLane) (met : List Met) (doc gain digit : ℕ) (k
       let new : Met = record { doc = doc; lo = gain; named = digit } in
       let size : length (met ++ new ∷ []) ≡ length met + 1 = length-append met (new ∷ []) in
       let last : met_at (met ++ new ∷ []) (length met) ≡ new = get_or-append_seam met new [] nothing in
-      let front : (i : ℕ) → i < length met → met_at (met ++ new ∷ []) i ≡ met_at met i = λ i low. get_or_append_left met (new ∷ []) nothing i low in
+      let frontier : (i : ℕ) → i < length met → met_at (met ++ new ∷ []) i ≡ met_at met i = λ i low. get_or_append_left met (new ∷ []) nothing i low in
       let out : list_any (names doc) all ≡ false = sym (known.named doc) ∙ list_any_none (has_doc doc) met (λ i d low.
       other_doc (get_or met i d).doc doc (λ e. unmet i low (ap (λ (x : Met). x.doc) (get_or_default met i nothing d low) ∙ e))) in
       let none = none_named all doc out in
@@ -91,14 +91,14 @@ module _ (all after : List ShownLane) (met : List Met) (doc gain digit : ℕ) (k
         once = λ i j less low same.
             let here : i < length met = omega (arith, less, low, size) in
             elim (cases_lt j (length met)) [
-              | inl before ↦ known.once i j less before (sym (ap (λ (x : Met). x.doc) (front i here)) ∙ same ∙ ap (λ (x : Met). x.doc) (front j before))
+              | inl before ↦ known.once i j less before (sym (ap (λ (x : Met). x.doc) (frontier i here)) ∙ same ∙ ap (λ (x : Met). x.doc) (frontier j before))
               | inr behind ↦
                   let place : j ≡ length met = omega (arith, behind, low, size) in
-                  unmet i here (sym (ap (λ (x : Met). x.doc) (front i here)) ∙ same ∙ ap (λ n. (met_at (met ++ new ∷ []) n).doc) place ∙ ap (λ (x : Met). x.doc) last)
+                  unmet i here (sym (ap (λ (x : Met). x.doc) (frontier i here)) ∙ same ∙ ap (λ n. (met_at (met ++ new ∷ []) n).doc) place ∙ ap (λ (x : Met). x.doc) last)
             ];
         named = λ q. list_any-append (has_doc q) met (new ∷ []) ∙ ap₂ (λ a b. a || b) (known.named q) (or_none (nat_eq doc q)) ∙ sym (enters.any q);
         each = λ i low. elim (cases_lt i (length met)) [
-          | inl before ↦ subst (IsKnown after) (sym (front i before)) (unchanged (met_at met i) (unmet i before) (known.each i before))
+          | inl before ↦ subst (IsKnown after) (sym (frontier i before)) (unchanged (met_at met i) (unmet i before) (known.each i before))
           | inr behind ↦
               let place : i ≡ length met = omega (arith, behind, low, size) in
               let is : IsKnown after new = record {

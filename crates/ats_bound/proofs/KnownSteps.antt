@@ -8,8 +8,8 @@ use Rattle.ats_postings.specs.declared.entry.Entry.{Entry}
 use Rattle.ats_bound.specs.declared.known.Met.{Met}
 use Rattle.ats_bound.specs.declared.lane.Lane.{Lane}
 use Rattle.ats_bound.specs.Cut.{ShownLane, names}
-use Rattle.ats_bound.specs.Front.{IsStage, Stage, entry_on, lane_on, shown_on}
-use Rattle.ats_bound.specs.Inner.Front.{named_by}
+use Rattle.ats_bound.specs.Frontier.{IsStage, Stage, entry_on, lane_on, shown_on}
+use Rattle.ats_bound.specs.Inner.Frontier.{named_by}
 use Rattle.ats_bound.specs.Inner.Known.{AreKnown, IsKnown, Meets, met_at}
 use Rattle.ats_bound.specs.Schedule.{AreWholeLanes, IsOpen, IsWholeLane, WholeLane, first_cut, shown, whole_lane, whole_lanes}
 use Rattle.ats_bound.proofs.Entered.{Enters, entered}

@@ -11,7 +11,7 @@ use Rattle.ats_bound.specs.declared.known.Met.{Met}
 use Rattle.ats_bound.specs.Inner.Best.{AreBest, count_at_least}
 use Rattle.ats_bound.specs.Chosen.{AreBrackets, IsChosen}
 use Rattle.ats_bound.specs.Cut.{ShownLane, bracket, threshold}
-use Rattle.ats_bound.specs.Front.{Stage, shown_on}
+use Rattle.ats_bound.specs.Frontier.{Stage, shown_on}
 use Rattle.ats_bound.specs.Inner.Known.{lows, met_at}
 use Rattle.ats_bound.specs.QuickTest.{PassesQuickTest, TellsSettled}
 use Rattle.ats_bound.specs.Inner.Running.{DoOverlap, IsAround, IsOpenAt, IsRunning}

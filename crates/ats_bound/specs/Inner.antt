@@ -1,7 +1,7 @@
 -- What the functions of the room promise one another. No public contract rests on it.
 
 pub mod Best
-pub mod Front
+pub mod Frontier
 pub mod Known
 pub mod Pages
 pub mod Placed

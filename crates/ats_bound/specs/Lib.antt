@@ -8,7 +8,7 @@ pub mod Schedule
 pub mod Lookup
 pub mod Narrow
 pub mod Stand
-pub mod Front
+pub mod Frontier
 pub mod QuickTest
 pub mod Running
 pub mod Inner

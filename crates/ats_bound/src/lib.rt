@@ -30,7 +30,7 @@ mod bounds;
 mod bracket;
 mod choosing;
 mod cut;
-mod front;
+mod frontier;
 mod known;
 mod lane;
 mod laws;

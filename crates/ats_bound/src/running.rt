@@ -13,7 +13,7 @@ ghost use Rattle.ats_bound.specs.Stand.{IsStand};
 use crate::best::Best;
 use crate::bounds::brackets;
 use crate::choosing::choose;
-use crate::front::{Front, Gain};
+use crate::frontier::{Frontier, Gain};
 use crate::known::{Known, Met};
 use crate::lane::Lane;
 use crate::memory::OutOfMemory;
@@ -32,7 +32,7 @@ use std::marker::Model;
 #[derive(Drop)]
 pub struct Running<'a> {
     alloc: Global,
-    front: Front<'a>,
+    frontier: Frontier<'a>,
     top: Top,
     known: Known,
     best: Best,
@@ -45,9 +45,9 @@ impl<'a> Model for Running<'a> {
 
     ghost Value = { Standing };
 
-    ghost view = { λ r. record { lanes = r.front.lanes; rows = r.top; cut = r.front.cut } };
+    ghost view = { λ r. record { lanes = r.frontier.lanes; rows = r.top; cut = r.frontier.cut } };
 
-    ghost invariant = { λ r. IsRunning r.front r.top r.known r.best };
+    ghost invariant = { λ r. IsRunning r.frontier r.top r.known r.best };
 }
 
 // The digit of a list among those that show which lists name a document.
@@ -132,13 +132,13 @@ impl<'a> Running<'a> {
         ensures { IfOk result (λ running.
             running ≡ record { lanes = whole_lanes lanes.now; rows = top; cut = first_cut (whole_lanes lanes.now) }) }
     {
-        let front = Front::new(alloc, lanes)?;
+        let frontier = Frontier::new(alloc, lanes)?;
         let mut known = Known::new(alloc);
         let mut best = Best::new(alloc, top)?;
         meet_first(lanes, &mut known, &mut best)?;
         Ok(Running {
             alloc,
-            front,
+            frontier,
             top,
             known,
             best,
@@ -151,7 +151,7 @@ impl<'a> Running<'a> {
         ensures next { MatchOption result (threshold (shown_in self.now) ≡ 0) (IsNextLane self.now.lanes self.now.cut) }
         ensures whole { IsNone result ↔ AreAllShown (shown_in self.now) }
     {
-        self.front.next_lane()
+        self.frontier.next_lane()
     }
 
     /// Shows one more entry of a list. If memory runs out, the walk stays at its cut.
@@ -165,11 +165,11 @@ impl<'a> Running<'a> {
         }) }
         ensures err { OnErr result (self.new ≡ self.old) }
     {
-        let gain = self.front.gain(lane);
+        let gain = self.frontier.gain(lane);
         meet(&mut self.known, &mut self.best, gain, digit(lane))?;
-        self.front.advance(lane);
+        self.frontier.advance(lane);
         let score = self.best.least();
-        self.watch.look(&self.front, &self.known, score);
+        self.watch.look(&self.frontier, &self.known, score);
         Ok(())
     }
 
@@ -180,7 +180,7 @@ impl<'a> Running<'a> {
         ensures wanted { OnErr result ((brackets : List Bounded) → AreBracketsOf (shown_in self.now) brackets
             → PassesQuickTest brackets (threshold (shown_in self.now)) self.now.rows) }
     {
-        let threshold = self.front.threshold();
+        let threshold = self.frontier.threshold();
         if threshold == 0 {
             return Ok(true);
         }
@@ -188,10 +188,10 @@ impl<'a> Running<'a> {
         if threshold > score {
             return Ok(false);
         }
-        if self.watch.stands(&self.front, &self.known, score) {
+        if self.watch.stands(&self.frontier, &self.known, score) {
             return Ok(false);
         }
-        let brackets = brackets(self.alloc, &self.front, &self.known)?;
+        let brackets = brackets(self.alloc, &self.frontier, &self.known)?;
         let picks = choose(self.alloc, brackets.as_slice(), self.top)?;
         Ok(settled(brackets.as_slice(), picks.as_slice(), threshold, self.top))
     }
@@ -203,17 +203,17 @@ impl<'a> Running<'a> {
     {
         let Running {
             alloc,
-            front,
+            frontier,
             top,
             known,
             best: _,
             watch: _,
         } = self;
-        let threshold = front.threshold();
-        let brackets = brackets(alloc, &front, &known)?;
+        let threshold = frontier.threshold();
+        let brackets = brackets(alloc, &frontier, &known)?;
         let picks = choose(alloc, brackets.as_slice(), top)?;
         Ok(Walk {
-            cut: front.cut(),
+            cut: frontier.cut(),
             brackets,
             picks,
             threshold,

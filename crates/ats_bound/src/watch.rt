@@ -1,12 +1,12 @@
 //! Slots that show that no answer is settled yet.
 
 ghost use Rattle.std.specs.Prelude.{IsTrue};
-ghost use Rattle.ats_bound.specs.Front.{shown_on};
+ghost use Rattle.ats_bound.specs.Frontier.{shown_on};
 ghost use Rattle.ats_bound.specs.Inner.Known.{AreKnown};
 ghost use Rattle.ats_bound.specs.Inner.Running.{IsOpenAt};
 
 use crate::bounds::{bracket_of, is_around, overlap};
-use crate::front::Front;
+use crate::frontier::Frontier;
 use crate::known::Known;
 use std::alloc::Global;
 use std::cmp::Reverse;
@@ -45,33 +45,33 @@ impl Watch {
     }
 
     /// Whether these slots show that no answer is settled. The score is the smallest of the best lower bounds.
-    pub(crate) fn stands(&self, front: &Front<'_>, known: &Known, score: u64) -> bool
-        requires { AreKnown (shown_on front.now) known.now }
-        ensures { IsTrue result → IsOpenAt score (shown_on front.now) known.now }
+    pub(crate) fn stands(&self, frontier: &Frontier<'_>, known: &Known, score: u64) -> bool
+        requires { AreKnown (shown_on frontier.now) known.now }
+        ensures { IsTrue result → IsOpenAt score (shown_on frontier.now) known.now }
     {
         let size = known.len();
-        if self.around < size && is_around(score, bracket_of(front, known.get(self.around))) {
+        if self.around < size && is_around(score, bracket_of(frontier, known.get(self.around))) {
             return true;
         }
         if self.left >= size || self.right >= size {
             return false;
         }
-        let left = bracket_of(front, known.get(self.left));
-        let right = bracket_of(front, known.get(self.right));
+        let left = bracket_of(frontier, known.get(self.left));
+        let right = bracket_of(frontier, known.get(self.right));
         overlap(score, left, right)
     }
 
     /// Searches for other slots after these no longer show it.
-    pub(crate) fn look(&mut self, front: &Front<'_>, known: &Known, score: u64)
-        requires { AreKnown (shown_on front.now) known.now }
+    pub(crate) fn look(&mut self, frontier: &Frontier<'_>, known: &Known, score: u64)
+        requires { AreKnown (shown_on frontier.now) known.now }
     {
-        if front.threshold() > score || self.stands(front, known, score) {
+        if frontier.threshold() > score || self.stands(frontier, known, score) {
             return;
         }
-        if self.sweep(front, known, score) {
+        if self.sweep(frontier, known, score) {
             return;
         }
-        self.refresh(front, known);
+        self.refresh(frontier, known);
         self.rows.retain(|row| row.hi > score);
         self.rows
             .sort_unstable_by_key(|row| (Reverse(row.lo), Reverse(row.hi)));
@@ -80,12 +80,12 @@ impl Watch {
 
     // Goes on through the slots to a document whose bracket lies around the score, and keeps those above it apart. If
     // memory runs out, one is left out.
-    fn sweep(&mut self, front: &Front<'_>, known: &Known, score: u64) -> bool
-        requires { AreKnown (shown_on front.now) known.now }
+    fn sweep(&mut self, frontier: &Frontier<'_>, known: &Known, score: u64) -> bool
+        requires { AreKnown (shown_on frontier.now) known.now }
     {
         for slot in self.place..known.len() {
             self.place = slot;
-            let bracket = bracket_of(front, known.get(slot));
+            let bracket = bracket_of(frontier, known.get(slot));
             if is_around(score, bracket) {
                 self.around = slot;
                 return true;
@@ -103,12 +103,12 @@ impl Watch {
     }
 
     // Updates the bounds of the rows.
-    fn refresh(&mut self, front: &Front<'_>, known: &Known)
-        requires { AreKnown (shown_on front.now) known.now }
+    fn refresh(&mut self, frontier: &Frontier<'_>, known: &Known)
+        requires { AreKnown (shown_on frontier.now) known.now }
     {
         for row in &mut self.rows {
             if row.slot < known.len() {
-                let bracket = bracket_of(front, known.get(row.slot));
+                let bracket = bracket_of(frontier, known.get(row.slot));
                 row.lo = bracket.lo;
                 row.hi = bracket.hi;
             }

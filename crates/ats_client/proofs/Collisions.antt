@@ -6,8 +6,8 @@ use Rattle.ats_tree.proofs.Public.{AreColliding, found-collides}
 use Rattle.ats_commit.specs.Archive.{Archive}
 use Rattle.ats_commit.specs.Ours.{ours}
 use Rattle.ats_proof.specs.Value.{Proof}
-use Rattle.ats_client.specs.Strings.{strings_of, extract}
+use Rattle.ats_client.specs.Strings.{strings_of, proof_collision}
 
-pub extract-collides : (H : List ℕ → List ℕ) (archive : Archive) (query : List (List ℕ × ℕ)) (proof : Proof) (c : Difference Place)
-    → extract H archive query proof ≡ Some c → AreColliding H c
-extract-collides H archive query proof c is = found-collides H (ours H archive query) (strings_of H query proof) c is
+pub collision-collides : (H : List ℕ → List ℕ) (archive : Archive) (query : List (List ℕ × ℕ)) (proof : Proof) (c : Difference Place)
+    → proof_collision H archive query proof ≡ Some c → AreColliding H c
+collision-collides H archive query proof c is = found-collides H (ours H archive query) (strings_of H query proof) c is

@@ -38,7 +38,7 @@ use Rattle.ats_proof.specs.Runs.{shown_entry, shown_list}
 use Rattle.ats_client.specs.Groups as groups
 use Rattle.ats_client.specs.Presented.{Presented, presented, entry_at}
 use Rattle.ats_client.specs.Slots as slots
-use Rattle.ats_client.specs.Strings.{hashed_header, strings_in, list_strings, documents_strings, strings_of, extract, AreLeavesOf, IsOwnList, AreOwnDocuments, IsOwn, IsBound}
+use Rattle.ats_client.specs.Strings.{hashed_header, strings_in, list_strings, documents_strings, strings_of, proof_collision, AreLeavesOf, IsOwnList, AreOwnDocuments, IsOwn, IsBound}
 use Rattle.ats_client.specs.Rooted.{AreRooted}
 use Rattle.ats_client.proofs.Counts.{list-front}
 use Rattle.ats_client.proofs.DescentDocuments.{all-documents-bind}
@@ -204,7 +204,7 @@ whole-binds H sized archive query proof are is range size rooted =
     (λ own_lists. all-documents-bind H sized archive query proof.header proof.met proof.docs are range.ids.rise range.shown rooted.documents rooted.terms numbers.1))))
 
 -- the first difference is then the first collision
-pub whole-extracts : (H : List ℕ → List ℕ) (archive : Archive) (query : List (List ℕ × ℕ)) (proof : Proof) → IsBound H archive query proof
-    → extract H archive query proof ≡ first_difference (ours H archive query) (strings_of H query proof)
-whole-extracts H archive query proof bound =
+pub collision-is-difference : (H : List ℕ → List ℕ) (archive : Archive) (query : List (List ℕ × ℕ)) (proof : Proof) → IsBound H archive query proof
+    → proof_collision H archive query proof ≡ first_difference (ours H archive query) (strings_of H query proof)
+collision-is-difference H archive query proof bound =
     difference-collides H (IsOwn H archive query proof) (ours H archive query) (strings_of H query proof) bound

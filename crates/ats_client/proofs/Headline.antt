@@ -18,16 +18,16 @@ use Rattle.ats_proof.specs.Ranges.{IsInRange}
 use Rattle.ats_client.specs.Presented.{Presented, presented, lane_of, lanes_of}
 use Rattle.ats_client.specs.Groups.{IsListRight}
 use Rattle.ats_client.specs.Bracketing.{bounds_of}
-use Rattle.ats_base.specs.Rules.{AreKept}
+use Rattle.ats_base.specs.Rules.{AllHold}
 use Rattle.ats_client.specs.Accepts.{section_rules, Accepts}
 use Rattle.ats_client.specs.Rooted.{AreRooted}
 use Rattle.ats_client.specs.Rows.{rows_of}
-use Rattle.ats_client.specs.Strings.{strings_of, extract, IsOwn, IsBound}
+use Rattle.ats_client.specs.Strings.{strings_of, proof_collision, IsOwn, IsBound}
 use Rattle.ats_client.specs.Headline.{AreRight, IsTopOrCollides}
 use Rattle.ats_client.proofs.Bracketing.{own_doc}
 use Rattle.ats_client.proofs.Kept.{sections_rooted}
 use Rattle.ats_client.proofs.Sectioned.{accepted_sections}
-use Rattle.ats_client.proofs.Descent.{whole-binds, whole-extracts}
+use Rattle.ats_client.proofs.Descent.{whole-binds, collision-is-difference}
 use Rattle.ats_client.proofs.HeadlineBrackets.{brackets_hold}
 use Rattle.ats_client.proofs.HeadlineRows.{NamesMet, settled_rows_right}
 use Rattle.ats_client.proofs.OwnLanes.{AllOf, each_own, own_lanes, lanes_cut, each_cut, score_own}
@@ -70,12 +70,12 @@ holds_or_some P Q (Some c) holds = inr refl
 
 -- if the rules of what a proof shows are kept, all of it is the archive's own, or there is a collision
 pub own_or_collides : (H : List ℕ → List ℕ) → ((m : List ℕ) → length (H m) ≡ 32) → (root : List ℕ) (query : List (List ℕ × ℕ)) (proof : Proof) → IsQuery query → IsInRange proof
-    → length proof.lists ≡ present_in proof.slots → AreKept (section_rules H root query proof) → (archive : Archive) → AreTexts archive.texts → root_of H archive ≡ root
-    → IsOwn H archive query proof ⊎ IsSome (extract H archive query proof)
+    → length proof.lists ≡ present_in proof.slots → AllHold (section_rules H root query proof) → (archive : Archive) → AreTexts archive.texts → root_of H archive ≡ root
+    → IsOwn H archive query proof ⊎ IsSome (proof_collision H archive query proof)
 own_or_collides H sized root query proof asked range size kept archive are same =
     let under : AreRooted H (root_of H archive) query proof = subst (λ (digest : List ℕ). AreRooted H digest query proof) (sym same) (sections_rooted H root query proof kept) in
     let bound : IsBound H archive query proof = whole-binds H sized archive query proof are asked range (sym size) under in
-    let found : extract H archive query proof ≡ first_difference (ours H archive query) (strings_of H query proof) = whole-extracts H archive query proof bound in
+    let found : proof_collision H archive query proof ≡ first_difference (ours H archive query) (strings_of H query proof) = collision-is-difference H archive query proof bound in
     elim (holds_or_some (IsOwn H archive query proof) (λ c. H c.theirs ≡ H c.ours) (first_difference (ours H archive query) (strings_of H query proof)) bound) [
       | inl own ↦ inl own
       | inr some ↦ inr (subst (λ (difference : Option (Difference Place)). IsSome difference) (sym found) some)

@@ -7,13 +7,13 @@ use Rattle.ats_client.specs.Bracketing.{bounds_of}
 use Rattle.ats_client.specs.Groups.{IsOpened, IsDictionary, AreSlotsRight, IsListRight, IsListRooted, AreListsRight, AreAllMet, AreRowsRight, IsAnswerSettled}
 use Rattle.ats_client.specs.Documents.{IsTermsTree, met_documents, present_numbers, IsDocumentRight, IsDocsTree, AreDocumentsRight}
 use Rattle.ats_client.specs.Rooted.{AreRooted}
-use Rattle.ats_base.specs.Rules.{AreKept}
+use Rattle.ats_base.specs.Rules.{AllHold}
 use Rattle.ats_client.specs.Accepts.{section_rules, Accepts}
 use Rattle.ats_client.proofs.Sectioned.{accepted_sections}
 
 -- ---- the rules of what a proof shows
 
-module _ (H : List ℕ → List ℕ) (root : List ℕ) (query : List (List ℕ × ℕ)) (proof : Proof) (kept : AreKept (section_rules H root query proof)) where
+module _ (H : List ℕ → List ℕ) (root : List ℕ) (query : List (List ℕ × ℕ)) (proof : Proof) (kept : AllHold (section_rules H root query proof)) where
   -- each section rebuilds to the root that the proof has for it
   pub sections_rooted : AreRooted H root query proof
   sections_rooted = record {

@@ -9,9 +9,9 @@ use Rattle.ats_client.specs.Groups.{IsOther, slot_at}
 use Rattle.ats_client.specs.Documents.{MetDocument, met_documents, docs_digest, AreDocsRooted, IsDocsRootFault, terms_digest, IsTermsTree, IsTermsFault, term_shown, present_numbers, IsTermSlotRight, AreTermSlotsRight, IsTermSlotsFault, document_rules, IsDocumentRight, AreDocumentsRight, IsDocumentsFault}
 use Rattle.ats_base.specs.Rules.{Group, IsFirstFault}
 use Rattle.ats_client.proofs.Exact.{IsDigestFault, digest_exact}
-use Rattle.ats_base.proofs.Public.{not_first_of, one_first_of, kept_or_first_of}
+use Rattle.ats_base.proofs.Public.{not_first_of, one_first_of, hold_or_first_of}
 use Rattle.ats_client.proofs.Least.{one_least, all_or_first}
-use Rattle.ats_base.proofs.Public.{IsExact, AreExact, not_kept, one_first, kept_or_first}
+use Rattle.ats_base.proofs.Public.{IsExact, AreExact, not_all_hold, one_first, hold_or_first}
 use Rattle.ats_client.proofs.Shows.{same_or_other, shows_term_or_not}
 
 -- ---- one digest
@@ -108,13 +108,13 @@ module _ (H : List ℕ → List ℕ) (query : List (List ℕ × ℕ)) (numbers :
   )
 
   not_document : (refusal : Refusal) → IsFirstFault (document_rules H query numbers one) refusal → IsDocumentRight H query numbers one → ⊥
-  not_document refusal fault right = not_kept (document_rules H query numbers one) refusal document_exact fault (right.tree, (right.slots, tt))
+  not_document refusal fault right = not_all_hold (document_rules H query numbers one) refusal document_exact fault (right.tree, (right.slots, tt))
 
   one_document : (a b : Refusal) → IsFirstFault (document_rules H query numbers one) a → IsFirstFault (document_rules H query numbers one) b → a ≡ b
   one_document a b is also = one_first (document_rules H query numbers one) a b document_exact is also
 
   document_tried : IsDocumentRight H query numbers one ⊎ ((refusal : Refusal) × IsFirstFault (document_rules H query numbers one) refusal)
-  document_tried = elim (kept_or_first (document_rules H query numbers one) (terms_tried H one, (slots_tried query numbers one, tt))) [
+  document_tried = elim (hold_or_first (document_rules H query numbers one) (terms_tried H one, (slots_tried query numbers one, tt))) [
     | inl kept ↦ inl (record { tree = kept.0; slots = kept.1.0 })
     | inr first ↦ inr first
   ]
@@ -134,4 +134,4 @@ module _ (H : List ℕ → List ℕ) (query : List (List ℕ × ℕ)) (proof : P
       one_first_of Right Fails (met_documents proof) a b (not_document H query (present_numbers proof)) (one_document H query (present_numbers proof)) is also
 
   pub documents_tried : AreDocumentsRight H query proof ⊎ ((refusal : Refusal) × IsDocumentsFault H query proof refusal)
-  documents_tried = kept_or_first_of Right Fails (met_documents proof) (document_tried H query (present_numbers proof))
+  documents_tried = hold_or_first_of Right Fails (met_documents proof) (document_tried H query (present_numbers proof))

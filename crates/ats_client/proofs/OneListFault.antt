@@ -9,7 +9,7 @@ use Rattle.ats_client.specs.Indexes.{AreNames, IsOut, IsAgain}
 use Rattle.ats_client.specs.Groups.{IsListRight, IsListFault, IsEntryFault, IsListRootFault, AreListsRight, IsListsFault, indexes_of, list_digest, list_rules}
 use Rattle.ats_client.proofs.Exact.{IsDigestFault, digest_exact, out_in, again_in, not_entries}
 use Rattle.ats_base.proofs.Public.{one_front, not_first_of, one_first_of}
-use Rattle.ats_base.proofs.Public.{AreExact, not_kept, one_first}
+use Rattle.ats_base.proofs.Public.{AreExact, not_all_hold, one_first}
 
 -- ---- indexes
 
@@ -58,7 +58,7 @@ list_exact H format met one = (
 )
 
 not_list : (H : List ℕ → List ℕ) (format : Format) (met : List ℕ) (one : Presented) (refusal : Refusal) → IsListFault H format met one refusal → IsListRight H format met one → ⊥
-not_list H format met one refusal fault right = not_kept (list_rules H format met one) refusal (list_exact H format met one) fault (right.names, (right.root, tt))
+not_list H format met one refusal fault right = not_all_hold (list_rules H format met one) refusal (list_exact H format met one) fault (right.names, (right.root, tt))
 
 pub not_lists : (H : List ℕ → List ℕ) (query : List (List ℕ × ℕ)) (proof : Proof) (refusal : Refusal) → IsListsFault H query proof refusal → AreListsRight H query proof → ⊥
 not_lists H query proof refusal fault right =

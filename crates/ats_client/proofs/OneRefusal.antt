@@ -15,8 +15,8 @@ use Rattle.ats_client.proofs.Least.{one_least}
 use Rattle.ats_client.proofs.OneListFault.{not_lists, one_out, one_again, out_or_again, one_lists}
 use Rattle.ats_client.proofs.OneDocumentFault.{docs_exact, not_documents, one_documents}
 use Rattle.ats_client.proofs.TwoRuns.{exact_both}
-use Rattle.ats_base.specs.Rules.{AreKept, IsFirstFault}
-use Rattle.ats_base.proofs.Public.{AreExact, not_kept, one_first}
+use Rattle.ats_base.specs.Rules.{AllHold, IsFirstFault}
+use Rattle.ats_base.proofs.Public.{AreExact, not_all_hold, one_first}
 
 one_opening : (H : List ℕ → List ℕ) (root : List ℕ) (query : List (List ℕ × ℕ)) (proof : Proof) (a b : Refusal)
     → IsOpeningFault H root query proof a → IsOpeningFault H root query proof b → a ≡ b
@@ -96,9 +96,9 @@ pub one_section : (H : List ℕ → List ℕ) (root : List ℕ) (query : List (L
     → IsFirstFault (section_rules H root query proof) a → IsFirstFault (section_rules H root query proof) b → a ≡ b
 one_section H root query proof a b is also = one_first (section_rules H root query proof) a b (exact_sections H root query proof) is also
 
-pub section_not_kept : (H : List ℕ → List ℕ) (root : List ℕ) (query : List (List ℕ × ℕ)) (proof : Proof) (refusal : Refusal)
-    → IsFirstFault (section_rules H root query proof) refusal → AreKept (section_rules H root query proof) → ⊥
-section_not_kept H root query proof refusal is kept = not_kept (section_rules H root query proof) refusal (exact_sections H root query proof) is kept
+pub section_rules_do_not_hold : (H : List ℕ → List ℕ) (root : List ℕ) (query : List (List ℕ × ℕ)) (proof : Proof) (refusal : Refusal)
+    → IsFirstFault (section_rules H root query proof) refusal → AllHold (section_rules H root query proof) → ⊥
+section_rules_do_not_hold H root query proof refusal is kept = not_all_hold (section_rules H root query proof) refusal (exact_sections H root query proof) is kept
 
 pub one_refusal : (H : List ℕ → List ℕ) (root : List ℕ) (query : List (List ℕ × ℕ)) (r : ℕ) (proof : Proof) (a b : Refusal)
     → IsFirstRefusal H root query r proof a → IsFirstRefusal H root query r proof b → a ≡ b
@@ -107,7 +107,7 @@ one_refusal H root query r proof a b is also = one_first (rules H root query r p
 -- a proof that is accepted is not refused
 pub not_both : (H : List ℕ → List ℕ) (root : List ℕ) (query : List (List ℕ × ℕ)) (r : ℕ) (proof : Proof) (refusal : Refusal)
     → Accepts H root query r proof → IsFirstRefusal H root query r proof refusal → ⊥
-not_both H root query r proof refusal accepts is = not_kept (rules H root query r proof) refusal (exact H root query r proof) is.first accepts.kept
+not_both H root query r proof refusal accepts is = not_all_hold (rules H root query r proof) refusal (exact H root query r proof) is.first accepts.kept
 
 pub accepted : (H : List ℕ → List ℕ) (root : List ℕ) (query : List (List ℕ × ℕ)) (r : ℕ) (proof : Proof) (result : Result ℕ Refusal)
     → IfErr result (λ refusal. IsFirstRefusal H root query r proof refusal) → Accepts H root query r proof → is_ok result ≡ true

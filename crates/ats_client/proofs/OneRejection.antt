@@ -21,8 +21,8 @@ module _ (H : List ℕ → List ℕ) (root : List ℕ) (query : List (List ℕ �
       ap Check (one_refusal H root query r is.0 a b is.2 (subst (λ (p : Proof). IsFirstRefusal H root query r p b) same also.2))
 
   -- an accepted proof has no fault, and satisfies all rules
-  pub accepted_kept : (proof : Proof) (rejection : Rejection) → IsAcceptedBytes H root query r bytes proof → IsRejectedBytes H root query r bytes rejection → ⊥
-  accepted_kept proof (Shape fault) is rejected = no_fault proof_schema bytes fault (fields_of proof) rejected is.says.spells
-  accepted_kept proof (Check refusal) is rejected =
+  pub accepted_not_refused : (proof : Proof) (rejection : Rejection) → IsAcceptedBytes H root query r bytes proof → IsRejectedBytes H root query r bytes rejection → ⊥
+  accepted_not_refused proof (Shape fault) is rejected = no_fault proof_schema bytes fault (fields_of proof) rejected is.says.spells
+  accepted_not_refused proof (Check refusal) is rejected =
       let same = one_value bytes proof rejected.0 is.says rejected.1 in
       not_both H root query r rejected.0 refusal (subst (Accepts H root query r) same is.accepts) rejected.2

@@ -9,7 +9,7 @@ use Rattle.std.proofs.lemmas.List.Folds.{Any-from_list_any, list_any_at}
 use Rattle.std.proofs.lemmas.List.FromFn.{length-range_with_len, get_or-range_with_len}
 use Rattle.std.proofs.lemmas.List.Sorted.{list_any-IsPermutation}
 use Rattle.std.proofs.lemmas.Option.{get_or_from_slice_get, slice_get_within}
-use Rattle.ats_base.specs.Rules.{AreKept}
+use Rattle.ats_base.specs.Rules.{AllHold}
 use Rattle.ats_terms.specs.Query.{IsQuery}
 use Rattle.ats_postings.specs.Lists.{list}
 use Rattle.ats_postings.specs.Postings.{count_in, posting, postings, postings_of_run}
@@ -103,7 +103,7 @@ pub record ShowsOwn (H : List ℕ → List ℕ) (archive : Archive) (root : List
   pub range : IsInRange proof
   pub enough : present_in proof.slots ≡ length proof.lists
   pub parts : AreDocumentsOf proof proof.docs
-  pub kept : AreKept (section_rules H root query proof)
+  pub kept : AllHold (section_rules H root query proof)
   pub own : IsOwn H archive query proof
 
 module _ (H : List ℕ → List ℕ) (archive : Archive) (root : List ℕ) (query : List (List ℕ × ℕ)) (proof : Proof) (is : ShowsOwn H archive root query proof) where

@@ -3,7 +3,7 @@
 -- a proof that satisfies each group of the check's rules is accepted
 pub use Rattle.ats_client.proofs.Kept.{accepts_each}
 -- no bytes are both accepted and rejected under one root for one query and row limit
-pub use Rattle.ats_client.proofs.OneRejection.{accepted_kept}
+pub use Rattle.ats_client.proofs.OneRejection.{accepted_not_refused}
 -- bytes are rejected in one way at most
 pub use Rattle.ats_client.proofs.OneRejection.{one_rejection}
 -- two tables with the same impacts of a document give the document the same looked-up score
@@ -13,7 +13,7 @@ pub use Rattle.ats_client.proofs.Headline.{top_or_collides}
 -- if the rules of what a proof shows are kept, all of it is the archive's own or there is a collision
 pub use Rattle.ats_client.proofs.Headline.{own_or_collides}
 -- if a rule of what a proof shows fails first, not all are kept
-pub use Rattle.ats_client.proofs.OneRefusal.{section_not_kept}
+pub use Rattle.ats_client.proofs.OneRefusal.{section_rules_do_not_hold}
 -- one rule of what a proof shows fails first
 pub use Rattle.ats_client.proofs.OneRefusal.{one_section}
 -- no rule of what a proof shows fails as not settled
@@ -34,8 +34,8 @@ pub use Rattle.ats_client.proofs.OwnCounts.{met_inside}
 pub use Rattle.ats_client.proofs.OwnCounts.{slots_tell}
 -- a proof that bytes spell has at most 2^26 items
 pub use Rattle.ats_client.proofs.FewItems.{few_items}
--- a collision extracted from a proof is two different strings with equal digests
-pub use Rattle.ats_client.proofs.Collisions.{extract-collides}
+-- the first collision of a proof is two different strings with equal digests
+pub use Rattle.ats_client.proofs.Collisions.{collision-collides}
 -- what holds of all sections of met documents holds of each one's
 pub use Rattle.ats_client.proofs.DescentDocuments.{sections-hold}
 -- what holds of all elements holds of the one at a place

@@ -1,7 +1,7 @@
 -- The rules of what a proof shows, apart from those of the rows: a proof without rows can break no rule of theirs but the
 -- last.
 use Rattle.std.proofs.Common.{◌≡◌, ◌⊎◌, ℕ, List, ◌∷◌, length, length-append, Option, Some, None, refl, ap, inl, inr, arith}
-use Rattle.ats_base.specs.Rules.{AreKept, IsFirstFault}
+use Rattle.ats_base.specs.Rules.{AllHold, IsFirstFault}
 use Rattle.ats_proof.specs.Value.{Documents, Proof}
 use Rattle.ats_refusal.specs.declared.proof.Refusal.{Refusal}
 use Rattle.ats_refusal.specs.declared.proof.Refusal.TheVariants.{AnswerOut, AnswerRepeated, NotSettled}
@@ -50,11 +50,11 @@ module _ (H : List ℕ → List ℕ) (root : List ℕ) (query : List (List ℕ �
 
   -- what the check of a proof without rows says of its sections
   pub refused_sections : (r : ℕ) → length proof.answer ≡ 0 → (refusal : Refusal) → IsFirstRefusal H root query r proof refusal
-      → IsFirstFault (section_rules H root query proof) refusal ⊎ (AreKept (section_rules H root query proof) × (refusal ≡ NotSettled))
+      → IsFirstFault (section_rules H root query proof) refusal ⊎ (AllHold (section_rules H root query proof) × (refusal ≡ NotSettled))
   refused_sections r none refusal is = elim (first_or_second (section_rules H root query proof) (row_rules query r proof) refusal is.first) [
     | inl first ↦ inl first
     | inr rows ↦ inr (rows.0, only_unsettled r none refusal rows.1)
   ]
 
-  pub accepted_sections : (r : ℕ) → Accepts H root query r proof → AreKept (section_rules H root query proof)
+  pub accepted_sections : (r : ℕ) → Accepts H root query r proof → AllHold (section_rules H root query proof)
   accepted_sections r accepts = first_kept (section_rules H root query proof) (row_rules query r proof) accepts.kept

@@ -43,7 +43,7 @@ use Rattle.ats_proof.specs.Runs.{shown_entry, shown_term, shown_docs, shown_list
 use Rattle.ats_client.specs.Documents.{documents_from, AreDocsRooted}
 use Rattle.ats_client.specs.Presented.{presented}
 use Rattle.ats_client.specs.Inner.Sections.{difference_in}
-use Rattle.ats_client.specs.Strings.{hashed_header, strings_in, list_strings, terms_strings, documents_strings, extract}
+use Rattle.ats_client.specs.Strings.{hashed_header, strings_in, list_strings, terms_strings, documents_strings, proof_collision}
 
 -- ---- strings of an archive's own have a tag
 
@@ -161,14 +161,14 @@ header_absent H o s none = ap (λ (p : Option (List ℕ)). collision_or H p s No
 
 -- ---- the whole proof
 
-pub extract-parts : (H : List ℕ → List ℕ) (archive : Archive) (query : List (List ℕ × ℕ)) (proof : Proof)
+pub collision-parts : (H : List ℕ → List ℕ) (archive : Archive) (query : List (List ℕ × ℕ)) (proof : Proof)
     (header dictionary lists documents : Option (Difference Place))
     → header ≡ first_collision H (ours H archive query) (hashed_header proof.format proof.header ∷ [])
     → dictionary ≡ first_collision H (ours H archive query) (strings_in H Dictionary proof.header.dict_leaves (map shown_entry proof.dict) proof.dict_digests)
     → lists ≡ first_collision H (ours H archive query) (flat_map (list_strings H proof.format proof.met) (presented query proof))
     → documents ≡ first_collision H (ours H archive query) (documents_strings H proof.header proof.met proof.docs)
-    → option_or header (option_or dictionary (option_or lists documents)) ≡ extract H archive query proof
-extract-parts H archive query proof header dictionary lists documents in_header in_dictionary in_lists in_documents =
+    → option_or header (option_or dictionary (option_or lists documents)) ≡ proof_collision H archive query proof
+collision-parts H archive query proof header dictionary lists documents in_header in_dictionary in_lists in_documents =
     let own : Place → Option (List ℕ) = ours H archive query
     in let a : List (Hashed Place) = hashed_header proof.format proof.header ∷ []
     in let b : List (Hashed Place) = strings_in H Dictionary proof.header.dict_leaves (map shown_entry proof.dict) proof.dict_digests

@@ -1,6 +1,6 @@
 -- Groups of rules in two runs, one after the other.
 use Rattle.std.proofs.Common.{◌⊎◌, ℕ, zero, suc, List, [], ◌∷◌, ◌++◌, inl, inr}
-use Rattle.ats_base.specs.Rules.{Group, AreKept, IsFirstFault}
+use Rattle.ats_base.specs.Rules.{Group, AllHold, IsFirstFault}
 use Rattle.ats_base.proofs.Public.{AreExact}
 
 -- if each group of both runs fails in one way, and is then not kept, so does each of all
@@ -9,12 +9,12 @@ exact_both [] b first second = second
 exact_both (group ∷ a) b first second = (first.0, exact_both a b first.1 second)
 
 -- if all groups are kept, those of the first run are
-pub first_kept : {F : Type 0} (a b : List (Group F)) → AreKept (a ++ b) → AreKept a
+pub first_kept : {F : Type 0} (a b : List (Group F)) → AllHold (a ++ b) → AllHold a
 first_kept [] b kept = tt
 first_kept (group ∷ a) b kept = (kept.0, first_kept a b kept.1)
 
 -- the first failure is one of the first run, or the first run is kept and it is one of the second
-pub first_or_second : {F : Type 0} (a b : List (Group F)) (fault : F) → IsFirstFault (a ++ b) fault → IsFirstFault a fault ⊎ (AreKept a × IsFirstFault b fault)
+pub first_or_second : {F : Type 0} (a b : List (Group F)) (fault : F) → IsFirstFault (a ++ b) fault → IsFirstFault a fault ⊎ (AllHold a × IsFirstFault b fault)
 first_or_second [] b fault is = inr (tt, is)
 first_or_second (group ∷ a) b fault (inl here) = inl (inl here)
 first_or_second (group ∷ a) b fault (inr later) = elim (first_or_second a b fault later.1) [

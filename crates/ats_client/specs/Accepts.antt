@@ -4,7 +4,7 @@ use Rattle.ats_proof.specs.Value.{Proof}
 use Rattle.ats_refusal.specs.declared.proof.Refusal.{Refusal}
 use Rattle.ats_client.specs.Presented.{lanes_of}
 use Rattle.ats_client.specs.Bracketing.{bounds_of}
-use Rattle.ats_base.specs.Rules.{Group, AreKept, IsFirstFault}
+use Rattle.ats_base.specs.Rules.{Group, AllHold, IsFirstFault}
 use Rattle.ats_client.specs.Documents.{IsDocsTree, IsDocsFault, AreDocumentsRight, IsDocumentsFault}
 use Rattle.ats_client.specs.Groups.{IsOpened, IsOpeningFault, IsDictionary, IsDictFault, AreSlotsRight, IsSlotsFault, AreListsRight, IsListsFault, AreAllMet, IsMetFault, AreRowsRight, IsRowsFault, IsAnswerSettled, IsSettledFault}
 
@@ -36,7 +36,7 @@ rules H root query r proof = section_rules H root query proof ++ row_rules query
 
 -- all rules hold
 pub record Accepts (H : List ℕ → List ℕ) (root : List ℕ) (query : List (List ℕ × ℕ)) (r : ℕ) (proof : Proof) : Type 0 where
-  pub kept : AreKept (rules H root query r proof)
+  pub kept : AllHold (rules H root query r proof)
 
 -- the first rule that the proof breaks
 pub record IsFirstRefusal (H : List ℕ → List ℕ) (root : List ℕ) (query : List (List ℕ × ℕ)) (r : ℕ) (proof : Proof) (refusal : Refusal) : Type 0 where

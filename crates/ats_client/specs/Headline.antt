@@ -9,7 +9,7 @@ use Rattle.ats_commit.specs.Root.{root_of}
 use Rattle.ats_commit.specs.Own.{AreTexts}
 use Rattle.ats_proof.specs.Value.{Proof}
 use Rattle.ats_client.specs.Rows.{rows_of}
-use Rattle.ats_client.specs.Strings.{extract}
+use Rattle.ats_client.specs.Strings.{proof_collision}
 
 -- the score of the row's document is between the row's bounds
 pub record HoldsRow (texts : List (List ℕ)) (query : List (List ℕ × ℕ)) (row : Row) : Type 0 where
@@ -25,4 +25,4 @@ pub record AreRight (texts : List (List ℕ)) (query : List (List ℕ × ℕ)) (
 -- and those of the archive contain two different ones with equal digests.
 abbrev pub IsTopOrCollides : (List ℕ → List ℕ) → List ℕ → List (List ℕ × ℕ) → ℕ → Proof → Type 0
 IsTopOrCollides H root query r proof = (archive : Archive) → AreTexts archive.texts → root_of H archive ≡ root
-    → AreRight archive.texts query r (rows_of query proof) ⊎ IsSome (extract H archive query proof)
+    → AreRight archive.texts query r (rows_of query proof) ⊎ IsSome (proof_collision H archive query proof)

@@ -12,7 +12,7 @@ use Rattle.ats_client.specs.Bracketing.{bounds_of}
 use Rattle.ats_client.specs.Marked.{AreMarks}
 
 -- the marks of the met documents, the threshold, and rows that name met documents
-pub record IsLeft (query : List (List ℕ × ℕ)) (proof : Proof) (marks : List Mark) (threshold : ℕ) : Type 0 where
+pub record IsLeftByCheck (query : List (List ℕ × ℕ)) (proof : Proof) (marks : List Mark) (threshold : ℕ) : Type 0 where
   pub each : AreMarks (bounds_of proof) (lanes_of query proof) proof.met marks
   pub rests : threshold ≡ threshold_of (lanes_of query proof)
   pub small : threshold < 2 ^ 48

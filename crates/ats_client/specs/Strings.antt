@@ -67,8 +67,8 @@ strings_of H query proof =
     ++ documents_strings H proof.header proof.met proof.docs)
 
 -- the first of them that differs from the archive's own at its place and has an equal digest
-abbrev pub extract : (List ℕ → List ℕ) → Archive → List (List ℕ × ℕ) → Proof → Option (Difference Place)
-extract H archive query proof = first_collision H (ours H archive query) (strings_of H query proof)
+abbrev pub proof_collision : (List ℕ → List ℕ) → Archive → List (List ℕ × ℕ) → Proof → Option (Difference Place)
+proof_collision H archive query proof = first_collision H (ours H archive query) (strings_of H query proof)
 
 -- the shown leaves are those of a list of byte strings at their positions
 abbrev pub AreLeavesOf : List (List ℕ) → List Shown → Type 0

@@ -1,7 +1,7 @@
 //! The rows of an answer, after the check accepted it.
 
 ghost use Rattle.std.specs.Prelude.{◌≡◌, ◌+◌, ◌≤◌, ◌<◌, ◌^◌, ℕ, List, length};
-ghost use Rattle.ats_client.specs.Rows.{IsLeft, row_of, row_bracket};
+ghost use Rattle.ats_client.specs.Rows.{IsLeftByCheck, row_of, row_bracket};
 
 use crate::settled::upper;
 use ats_bound::Work;
@@ -14,10 +14,10 @@ use byteorder::{BigEndian, ByteOrder};
 ///
 /// The marks and the threshold must be those that an accepted check of this proof leaves.
 pub fn row(proof: &ProofView<'_>, work: &Work, threshold: u64, i: u32, steps: &mut Steps) -> Row
-    requires left { (query : List (List ℕ × ℕ)) × IsLeft query proof.now work.now.marks threshold }
+    requires left { (query : List (List ℕ × ℕ)) × IsLeftByCheck query proof.now work.now.marks threshold }
     requires within { i < length proof.now.answer }
     requires count { steps.old ≤ 2 ^ 63 }
-    ensures row { (query : List (List ℕ × ℕ)) → IsLeft query proof.now work.now.marks threshold
+    ensures row { (query : List (List ℕ × ℕ)) → IsLeftByCheck query proof.now work.now.marks threshold
         → result ≡ row_of (row_bracket query proof.now i) }
     ensures cost { steps.new ≡ steps.old + 3 }
 {

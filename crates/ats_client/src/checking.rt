@@ -8,7 +8,7 @@ ghost use Rattle.ats_client.specs.Presented.{lanes_of};
 ghost use Rattle.ats_client.specs.Bracketing.{bounds_of};
 ghost use Rattle.ats_client.specs.Accepts.{Accepts, IsFirstRefusal};
 ghost use Rattle.ats_client.specs.Marked.{AreMarks};
-ghost use Rattle.ats_client.specs.Rows.{IsLeft};
+ghost use Rattle.ats_client.specs.Rows.{IsLeftByCheck};
 ghost use Rattle.ats_client.specs.Headline.{IsTopOrCollides};
 
 use crate::all_lists::lists;
@@ -43,7 +43,7 @@ fn checked<'a, H: Hash32>(
     ensures threshold { IfOk result (λ threshold. threshold ≡ threshold_of (lanes_of query.now proof.now)) }
     ensures marks { OnOk result
         (AreMarks (bounds_of proof.now) (lanes_of query.now proof.now) proof.now.met work.new.marks) }
-    ensures left { IfOk result (λ threshold. IsLeft query.now proof.now work.new.marks threshold) }
+    ensures left { IfOk result (λ threshold. IsLeftByCheck query.now proof.now work.new.marks threshold) }
     ensures refused { IfErr result (λ refusal. IsFirstRefusal H.hash root.now query.now top proof.now refusal) }
     ensures room { work.new.room ≡ work.old.room }
     ensures steps { steps.new ≤ steps.old + 8 * items_of proof.now + 64 }
@@ -84,7 +84,7 @@ pub fn check<'a, H: Hash32>(
     ensures threshold { IfOk result (λ threshold. threshold ≡ threshold_of (lanes_of query.now proof.now)) }
     ensures marks { OnOk result
         (AreMarks (bounds_of proof.now) (lanes_of query.now proof.now) proof.now.met work.new.marks) }
-    ensures left { IfOk result (λ threshold. IsLeft query.now proof.now work.new.marks threshold) }
+    ensures left { IfOk result (λ threshold. IsLeftByCheck query.now proof.now work.new.marks threshold) }
     ensures refused { IfErr result (λ refusal. IsFirstRefusal H.hash root.now query.now top proof.now refusal) }
     ensures room { work.new.room ≡ work.old.room }
     ensures steps { steps.new ≤ steps.old + 8 * items_of proof.now + 64 }

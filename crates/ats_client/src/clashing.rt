@@ -19,7 +19,7 @@ ghost use Rattle.ats_client.specs.Presented.{presented};
 ghost use Rattle.ats_client.specs.Sections.{AreRebuilt, difference_of};
 ghost use Rattle.ats_client.specs.Inner.Sections.{difference_in};
 ghost use Rattle.ats_client.specs.Inner.SeenTerms.{document_of};
-ghost use Rattle.ats_client.specs.Strings.{hashed_header, strings_in, list_strings, terms_strings, documents_strings, extract};
+ghost use Rattle.ats_client.specs.Strings.{hashed_header, strings_in, list_strings, terms_strings, documents_strings, proof_collision};
 
 use crate::memory::OutOfMemory;
 use crate::next_term::present;
@@ -58,7 +58,7 @@ pub fn first_clash<'a, H: Hash32, O: OwnStrings<H>>(
 ) -> Result<Option<Clash>, OutOfMemory>
     requires { AreRebuilt H.hash query.now proof.now }
     ensures { IfOk result
-        (λ clash. option_map difference_of clash ≡ extract H.hash (O.archive own.now) query.now proof.now) }
+        (λ clash. option_map difference_of clash ≡ proof_collision H.hash (O.archive own.now) query.now proof.now) }
 {
     let mut steps = Steps::new(alloc);
     if let Some(clash) = header::<H, O>(own, query, proof, &mut steps) {

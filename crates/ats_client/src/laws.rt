@@ -13,7 +13,7 @@ ghost use Rattle.ats_refusal.specs.declared.proof.Rejection.{Rejection};
 ghost use Rattle.ats_refusal.specs.declared.proof.Refusal.{Refusal};
 ghost use Rattle.ats_client.specs.Accepts.{Accepts, IsFirstRefusal};
 ghost use Rattle.ats_client.specs.Bytes.{IsAcceptedBytes, IsRejectedBytes};
-ghost use Rattle.ats_client.specs.Strings.{strings_of, extract, IsOwn, IsBound};
+ghost use Rattle.ats_client.specs.Strings.{strings_of, proof_collision, IsOwn, IsBound};
 ghost use Rattle.ats_client.specs.Documents.{IsDocsTree, IsDocsFault, AreDocumentsRight, IsDocumentsFault};
 ghost use Rattle.ats_client.specs.Rooted.{AreRooted};
 ghost use Rattle.ats_client.specs.Headline.{AreRight, IsTopOrCollides};
@@ -22,30 +22,30 @@ use ats_hash::HashKind;
 
 /// If the sections of a proof, by either algorithm, rebuild to the roots that the proof has for them, from the root of
 /// an archive down, then either all that they show is the archive's own, or the first string of the proof that differs
-/// from the archive's has an equal digest and `extract` finds that string.
+/// from the archive's has an equal digest and `proof_collision` finds that string.
 pub fn rebuilt_sections_are_bound<H: HashKind>()
     ensures bound { (archive : Archive) (query : List (List ℕ × ℕ)) (bytes : List ℕ) (proof : Proof)
         → AreTexts archive.texts → IsQuery query
         → IsProof bytes proof → AreRooted H.hash (root_of H.hash archive) query proof
         → IsBound H.hash archive query proof }
-    ensures extract { (archive : Archive) (query : List (List ℕ × ℕ)) (bytes : List ℕ) (proof : Proof)
+    ensures collision { (archive : Archive) (query : List (List ℕ × ℕ)) (bytes : List ℕ) (proof : Proof)
         → AreTexts archive.texts → IsQuery query
         → IsProof bytes proof → AreRooted H.hash (root_of H.hash archive) query proof
-        → extract H.hash archive query proof
+        → proof_collision H.hash archive query proof
         ≡ first_difference (ours H.hash archive query) (strings_of H.hash query proof) }
 {}
 
 /// For every archive with the root, either what an accepted proof shows is the archive's own, or the first string of
-/// the proof that differs from the archive's has an equal digest and `extract` finds that string.
+/// the proof that differs from the archive's has an equal digest and `proof_collision` finds that string.
 pub fn shown_leaves_are_bound<H: HashKind>()
     ensures bound { (archive : Archive) (query : List (List ℕ × ℕ)) (r : ℕ) (bytes : List ℕ) (proof : Proof)
         → AreTexts archive.texts → IsQuery query
         → IsProof bytes proof → Accepts H.hash (root_of H.hash archive) query r proof
         → IsBound H.hash archive query proof }
-    ensures extract { (archive : Archive) (query : List (List ℕ × ℕ)) (r : ℕ) (bytes : List ℕ) (proof : Proof)
+    ensures collision { (archive : Archive) (query : List (List ℕ × ℕ)) (r : ℕ) (bytes : List ℕ) (proof : Proof)
         → AreTexts archive.texts → IsQuery query
         → IsProof bytes proof → Accepts H.hash (root_of H.hash archive) query r proof
-        → extract H.hash archive query proof
+        → proof_collision H.hash archive query proof
         ≡ first_difference (ours H.hash archive query) (strings_of H.hash query proof) }
 {}
 
@@ -57,7 +57,7 @@ pub fn own_leaves_make_rows_right<H: HashKind>()
         → AreRight archive.texts query r (rows_of query proof) }
 {}
 
-/// The headline: for each archive with the root, either the rows of an accepted proof are right, or `extract` finds two
+/// The headline: for each archive with the root, either the rows of an accepted proof are right, or `proof_collision` finds two
 /// different strings with equal digests.
 pub fn accepted_answers_are_top<H: HashKind>()
     ensures { (root : List ℕ) (query : List (List ℕ × ℕ)) (r : ℕ) (bytes : List ℕ) (proof : Proof)

@@ -3,7 +3,7 @@
 ghost use Rattle.std.specs.Prelude.{◌≡◌, ℕ, List, OnOk, IfOk, IfErr};
 ghost use Rattle.ats_client.specs.Accepts.{Accepts};
 ghost use Rattle.ats_client.specs.Headline.{IsTopOrCollides};
-ghost use Rattle.ats_client.specs.Rows.{IsLeft, rows_of};
+ghost use Rattle.ats_client.specs.Rows.{IsLeftByCheck, rows_of};
 ghost use Rattle.ats_client.specs.Bytes.{AreVerifiedRows, IsVerifyFault, IsProofFault};
 
 use crate::answer::row;
@@ -24,8 +24,8 @@ fn answer_rows(
     work: &Work,
     threshold: u64,
 ) -> Result<Rows, OutOfMemory>
-    requires left { (query : List (List ℕ × ℕ)) × IsLeft query proof.now work.now.marks threshold }
-    ensures rows { (query : List (List ℕ × ℕ)) → IsLeft query proof.now work.now.marks threshold
+    requires left { (query : List (List ℕ × ℕ)) × IsLeftByCheck query proof.now work.now.marks threshold }
+    ensures rows { (query : List (List ℕ × ℕ)) → IsLeftByCheck query proof.now work.now.marks threshold
         → IfOk result (λ rows. rows ≡ rows_of query proof.now) }
 {
     let mut steps = Steps::new(alloc);

@@ -1,14 +1,14 @@
 -- A proof is refused by one rule, and not if it is accepted.
 use Rattle.std.proofs.Common.{◌≡◌, ◌∙◌, ℕ, List, length, true, Result, Ok, Err, refl, sym, ap, subst, inl, inr}
 use Rattle.std.specs.Result.{is_ok, IfErr}
-use Rattle.ats_base.specs.Rules.{AreKept}
-use Rattle.ats_base.proofs.Public.{AreExact, not_kept, one_first}
+use Rattle.ats_base.specs.Rules.{AllHold}
+use Rattle.ats_base.proofs.Public.{AreExact, not_all_hold, one_first}
 use Rattle.ats_proof.specs.Value.{Proof, algorithm_of}
 use Rattle.ats_proof.specs.declared.record.Algorithm.TheVariants.{Tra}
 use Rattle.ats_client.specs.Accepts.{section_rules}
 use Rattle.ats_proof.proofs.Public.{one_value}
-use Rattle.ats_client.proofs.Public.{section_not_kept, one_section}
-use Rattle.ats_conjunction.specs.Rules.{rules, AcceptsBoth, IsFirstRefusal, IsOtherAlgorithm, HasRows, IsSectionFault, IsWhole, IsPart}
+use Rattle.ats_client.proofs.Public.{section_rules_do_not_hold, one_section}
+use Rattle.ats_conjunction.specs.Rules.{rules, AcceptsBoth, IsFirstBothRefusal, IsOtherAlgorithm, HasRows, IsSectionFault, IsWhole, IsPart}
 use Rattle.ats_conjunction.specs.Bytes.{AreAcceptedBytes, AreRefusedBytes}
 use Rattle.ats_refusal.specs.declared.documents.BothRefusal.{BothRefusal}
 use Rattle.ats_refusal.specs.declared.documents.BothRefusal.TheVariants.{NotTra, AnswerShown, Section, NoWholeList}
@@ -37,8 +37,8 @@ module _ (H : List ℕ → List ℕ) (root : List ℕ) (query : List (List ℕ �
   one_in_sections (Section a) _ is also = absurd also
   one_in_sections _ b is also = absurd is
 
-  breaks_sections : (a : BothRefusal) → IsSectionFault H root query proof a → AreKept (section_rules H root query proof) → ⊥
-  breaks_sections (Section a) is kept = section_not_kept H root query proof a is kept
+  breaks_sections : (a : BothRefusal) → IsSectionFault H root query proof a → AllHold (section_rules H root query proof) → ⊥
+  breaks_sections (Section a) is kept = section_rules_do_not_hold H root query proof a is kept
   breaks_sections _ is kept = is
 
   one_part : (a b : BothRefusal) → IsPart query proof a → IsPart query proof b → a ≡ b
@@ -64,13 +64,13 @@ module _ (H : List ℕ → List ℕ) (root : List ℕ) (query : List (List ℕ �
     ),
   )
 
-  pub one_refusal : (a b : BothRefusal) → IsFirstRefusal H root query proof a → IsFirstRefusal H root query proof b → a ≡ b
+  pub one_refusal : (a b : BothRefusal) → IsFirstBothRefusal H root query proof a → IsFirstBothRefusal H root query proof b → a ≡ b
   one_refusal a b is also = one_first (rules H root query proof) a b exact is.first also.first
 
-  pub not_both : (refusal : BothRefusal) → AcceptsBoth H root query proof → IsFirstRefusal H root query proof refusal → ⊥
-  not_both refusal accepts is = not_kept (rules H root query proof) refusal exact is.first accepts.kept
+  pub not_both : (refusal : BothRefusal) → AcceptsBoth H root query proof → IsFirstBothRefusal H root query proof refusal → ⊥
+  not_both refusal accepts is = not_all_hold (rules H root query proof) refusal exact is.first accepts.kept
 
-  pub accepted : {T : Type 0} (result : Result T BothRefusal) → IfErr result (IsFirstRefusal H root query proof) → AcceptsBoth H root query proof → is_ok result ≡ true
+  pub accepted : {T : Type 0} (result : Result T BothRefusal) → IfErr result (IsFirstBothRefusal H root query proof) → AcceptsBoth H root query proof → is_ok result ≡ true
   accepted (Ok unit) refused accepts = refl
   accepted (Err refusal) refused accepts = absurd (not_both refusal accepts refused)
 
@@ -78,7 +78,7 @@ module _ (H : List ℕ → List ℕ) (root : List ℕ) (query : List (List ℕ �
   pub one_of_bytes : (a b : BothRefusal) → AreRefusedBytes H root query bytes a → AreRefusedBytes H root query bytes b → a ≡ b
   one_of_bytes a b is also =
       let same : also.proof ≡ is.proof = one_value bytes also.proof is.proof also.says is.says in
-      one_refusal H root query is.proof a b is.refused (subst (λ (p : Proof). IsFirstRefusal H root query p b) same also.refused)
+      one_refusal H root query is.proof a b is.refused (subst (λ (p : Proof). IsFirstBothRefusal H root query p b) same also.refused)
 
   pub not_refused : (proof : Proof) (refusal : BothRefusal) → AreAcceptedBytes H root query bytes proof → AreRefusedBytes H root query bytes refusal → ⊥
   not_refused proof refusal is refused =

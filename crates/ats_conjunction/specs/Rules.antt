@@ -1,7 +1,7 @@
 -- When a proof is accepted as one that shows all documents with every term of a query, and by which rule it is refused
 -- otherwise.
 use Rattle.std.specs.Prelude.{◌≡◌, ◌≢◌, ◌⊎◌, ℕ, List, [], ◌∷◌, length, true, false}
-use Rattle.ats_base.specs.Rules.{Group, AreKept, IsFirstFault}
+use Rattle.ats_base.specs.Rules.{Group, AllHold, IsFirstFault}
 use Rattle.ats_proof.specs.Value.{Proof, algorithm_of}
 use Rattle.ats_proof.specs.declared.record.Algorithm.TheVariants.{Tra}
 use Rattle.ats_client.specs.Accepts.{section_rules}
@@ -36,14 +36,14 @@ abbrev pub rules : (List ℕ → List ℕ) → List ℕ → List (List ℕ × �
 rules H root query proof =
     record { kept = algorithm_of proof ≡ Tra; fault = IsOtherAlgorithm proof }
     ∷ record { kept = length proof.answer ≡ 0; fault = HasRows proof }
-    ∷ record { kept = AreKept (section_rules H root query proof); fault = IsSectionFault H root query proof }
+    ∷ record { kept = AllHold (section_rules H root query proof); fault = IsSectionFault H root query proof }
     ∷ record { kept = IsWhole query proof; fault = IsPart query proof }
     ∷ []
 
 -- all rules hold
 pub record AcceptsBoth (H : List ℕ → List ℕ) (root : List ℕ) (query : List (List ℕ × ℕ)) (proof : Proof) : Type 0 where
-  pub kept : AreKept (rules H root query proof)
+  pub kept : AllHold (rules H root query proof)
 
 -- the first rule that the proof breaks
-pub record IsFirstRefusal (H : List ℕ → List ℕ) (root : List ℕ) (query : List (List ℕ × ℕ)) (proof : Proof) (refusal : BothRefusal) : Type 0 where
+pub record IsFirstBothRefusal (H : List ℕ → List ℕ) (root : List ℕ) (query : List (List ℕ × ℕ)) (proof : Proof) (refusal : BothRefusal) : Type 0 where
   pub first : IsFirstFault (rules H root query proof) refusal

@@ -1,11 +1,11 @@
 //! The check of a proof that shows all documents with every term of a query.
 
 ghost use Rattle.std.specs.Prelude.{◌≡◌, ◌≤◌, ◌+◌, ◌*◌, ◌^◌, length, IsOk, OnOk, IfErr};
-ghost use Rattle.ats_base.specs.Rules.{AreKept};
+ghost use Rattle.ats_base.specs.Rules.{AllHold};
 ghost use Rattle.ats_proof.specs.Value.{items_of};
 ghost use Rattle.ats_client.specs.Accepts.{section_rules};
 ghost use Rattle.ats_conjunction.specs.Headline.{AreBothOrCollide};
-ghost use Rattle.ats_conjunction.specs.Rules.{AcceptsBoth, IsFirstRefusal, IsSectionFault};
+ghost use Rattle.ats_conjunction.specs.Rules.{AcceptsBoth, IsFirstBothRefusal, IsSectionFault};
 
 use crate::slots::are_present;
 use ats_bound::Work;
@@ -27,7 +27,7 @@ fn sections<'a, H: Hash32>(
     requires none { length proof.now.answer ≡ 0 }
     requires work { length proof.now.met ≤ work.old.room }
     requires count { steps.old ≤ 2 ^ 62 }
-    ensures kept { OnOk result (AreKept (section_rules H.hash root.now query.now proof.now)) }
+    ensures kept { OnOk result (AllHold (section_rules H.hash root.now query.now proof.now)) }
     ensures fault { IfErr result (IsSectionFault H.hash root.now query.now proof.now) }
     ensures room { work.new.room ≡ work.old.room }
     ensures steps { steps.new ≤ steps.old + 8 * items_of proof.now + 64 }
@@ -53,7 +53,7 @@ fn checked<'a, H: Hash32>(
     requires work { length proof.now.met ≤ work.old.room }
     requires count { steps.old ≤ 2 ^ 62 }
     ensures accepts { OnOk result (AcceptsBoth H.hash root.now query.now proof.now) }
-    ensures refused { IfErr result (IsFirstRefusal H.hash root.now query.now proof.now) }
+    ensures refused { IfErr result (IsFirstBothRefusal H.hash root.now query.now proof.now) }
     ensures room { work.new.room ≡ work.old.room }
     ensures steps { steps.new ≤ steps.old + 12 * items_of proof.now + 128 }
 {
@@ -91,7 +91,7 @@ pub fn check_both<'a, H: Hash32>(
     ensures accepts { OnOk result (AcceptsBoth H.hash root.now query.now proof.now) }
     ensures both { OnOk result (AreBothOrCollide H.hash root.now query.now proof.now) }
     ensures exact { AcceptsBoth H.hash root.now query.now proof.now → IsOk result }
-    ensures refused { IfErr result (IsFirstRefusal H.hash root.now query.now proof.now) }
+    ensures refused { IfErr result (IsFirstBothRefusal H.hash root.now query.now proof.now) }
     ensures room { work.new.room ≡ work.old.room }
     ensures steps { steps.new ≤ steps.old + 12 * items_of proof.now + 128 }
 {

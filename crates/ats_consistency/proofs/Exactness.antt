@@ -4,8 +4,8 @@ use Rattle.std.specs.Prelude.{Ok, Err, IsOk, IfErr}
 use Rattle.std.specs.declared.result.Result.{Result}
 use Rattle.ats_base.specs.Rules.{Group}
 use Rattle.ats_commit.specs.Root.{header_root}
-use Rattle.ats_base.proofs.Public.{IsExact, AreExact, not_kept, one_first}
-use Rattle.ats_consistency.specs.Rules.{rules, AcceptsGrowth, IsFirstRefusal, IsOtherOld, IsOtherNew, IsShrunk, IsMisfit, IsOldTexts, IsNewTexts, digests_needed, texts_roots}
+use Rattle.ats_base.proofs.Public.{IsExact, AreExact, not_all_hold, one_first}
+use Rattle.ats_consistency.specs.Rules.{rules, AcceptsGrowth, IsFirstGrowthRefusal, IsOtherOld, IsOtherNew, IsShrunk, IsMisfit, IsOldTexts, IsNewTexts, digests_needed, texts_roots}
 use Rattle.ats_consistency.specs.Value.{Growth}
 use Rattle.ats_consistency.specs.declared.checking.Grown.{Grown}
 use Rattle.ats_refusal.specs.declared.growth.GrowthRefusal.{GrowthRefusal}
@@ -50,13 +50,13 @@ module _ (H : List ℕ → List ℕ) (old new : List ℕ) (g : Growth) where
   )
 
   -- a growth that is accepted is not refused
-  pub accepted_kept : (refusal : GrowthRefusal) → AcceptsGrowth H old new g → IsFirstRefusal H old new g refusal → ⊥
-  accepted_kept refusal accepts is = not_kept (rules H old new g) refusal exact is.first accepts.kept
+  pub accepted_not_refused : (refusal : GrowthRefusal) → AcceptsGrowth H old new g → IsFirstGrowthRefusal H old new g refusal → ⊥
+  accepted_not_refused refusal accepts is = not_all_hold (rules H old new g) refusal exact is.first accepts.kept
 
   -- a growth is refused by one rule
-  pub one_refusal : (a b : GrowthRefusal) → IsFirstRefusal H old new g a → IsFirstRefusal H old new g b → a ≡ b
+  pub one_refusal : (a b : GrowthRefusal) → IsFirstGrowthRefusal H old new g a → IsFirstGrowthRefusal H old new g b → a ≡ b
   one_refusal a b is also = one_first (rules H old new g) a b exact is.first also.first
 
-  pub accepted-ok : (result : Result Grown GrowthRefusal) → IfErr result (IsFirstRefusal H old new g) → AcceptsGrowth H old new g → IsOk result
+  pub accepted-ok : (result : Result Grown GrowthRefusal) → IfErr result (IsFirstGrowthRefusal H old new g) → AcceptsGrowth H old new g → IsOk result
   accepted-ok (Ok grown) refused accepts = refl
-  accepted-ok (Err refusal) refused accepts = absurd (accepted_kept refusal accepts refused)
+  accepted-ok (Err refusal) refused accepts = absurd (accepted_not_refused refusal accepts refused)

@@ -5,7 +5,7 @@ pub use Rattle.ats_consistency.proofs.OneGrowth.{one_growth}
 -- two spellings of one growth are the same bytes
 pub use Rattle.ats_consistency.proofs.OneGrowth.{one_join}
 -- a growth that is accepted under two roots is not refused under them
-pub use Rattle.ats_consistency.proofs.Exactness.{accepted_kept}
+pub use Rattle.ats_consistency.proofs.Exactness.{accepted_not_refused}
 -- a growth is refused by one rule
 pub use Rattle.ats_consistency.proofs.Exactness.{one_refusal}
 -- the numbers, roots and digests of a growth that bytes spell are in their ranges

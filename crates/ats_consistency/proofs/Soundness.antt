@@ -18,7 +18,7 @@ use Rattle.ats_commit.proofs.Public.{own_header, rest_same}
 use Rattle.ats_consistency.specs.Headline.{IsPrefix, HasGrown, IsGrownOrCollides}
 use Rattle.ats_consistency.specs.Rules.{AcceptsGrowth}
 use Rattle.ats_consistency.specs.Shape.{turns, need}
-use Rattle.ats_consistency.specs.Strings.{Beside, beside, header_pair, new_strings, old_strings, ranges, range_pairs, pairs, second_of, extract}
+use Rattle.ats_consistency.specs.Strings.{Beside, beside, header_pair, new_strings, old_strings, ranges, range_pairs, pairs, second_of, growth_collision}
 use Rattle.ats_consistency.specs.Value.{Growth, IsInRange, AreInRange}
 use Rattle.ats_consistency.proofs.Digests.{All-reverse}
 use Rattle.ats_consistency.proofs.Fits.{Fits, fits, Extends}
@@ -122,7 +122,7 @@ grown_or_collides H sized old new g range accepts older newer old_are new_are is
     subst (λ (root : List ℕ). AcceptsGrowth H root (root_of H newer) g) (sym is_old) (subst (λ (root : List ℕ). AcceptsGrowth H old root g) (sym is_new) accepts)
     in let Grown : Type 0 = HasGrown older newer g.old.documents g.new.documents
     in let bound : Binds H second_of (pairs H older newer g) Grown = growth-binds H sized older newer g old_are new_are range under
-    in let found : extract H older newer g ≡ first_difference second_of (pairs H older newer g) = difference-collides H Grown second_of (pairs H older newer g) bound
+    in let found : growth_collision H older newer g ≡ first_difference second_of (pairs H older newer g) = difference-collides H Grown second_of (pairs H older newer g) bound
     in elim (holds-or-some Grown (λ c. H c.theirs ≡ H c.ours) (first_difference second_of (pairs H older newer g)) bound) [
       | inl grown ↦ inl grown
       | inr some ↦ inr (subst (λ (difference : Option (Difference Beside)). IsSome difference) (sym found) some)

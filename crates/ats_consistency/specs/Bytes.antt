@@ -1,6 +1,6 @@
 -- When bytes are accepted as a growth under two roots, and by which rule they are refused otherwise.
 use Rattle.std.specs.Prelude.{ℕ, List}
-use Rattle.ats_consistency.specs.Rules.{AcceptsGrowth, IsFirstRefusal}
+use Rattle.ats_consistency.specs.Rules.{AcceptsGrowth, IsFirstGrowthRefusal}
 use Rattle.ats_consistency.specs.Value.{Growth, IsGrowth}
 use Rattle.ats_refusal.specs.declared.growth.GrowthRefusal.{GrowthRefusal}
 
@@ -13,4 +13,4 @@ pub record IsAcceptedGrowth (H : List ℕ → List ℕ) (old new : List ℕ) (by
 pub record IsRefusedGrowth (H : List ℕ → List ℕ) (old new : List ℕ) (bytes : List ℕ) (refusal : GrowthRefusal) : Type 0 where
   pub growth : Growth
   pub says : IsGrowth bytes growth
-  pub refused : IsFirstRefusal H old new growth refusal
+  pub refused : IsFirstGrowthRefusal H old new growth refusal

@@ -3,7 +3,7 @@ use Rattle.std.specs.Prelude.{◌≡◌, ◌⊎◌, ℕ, List, length, take, IsS
 use Rattle.ats_commit.specs.Archive.{Archive}
 use Rattle.ats_commit.specs.Own.{AreTexts}
 use Rattle.ats_commit.specs.Root.{root_of}
-use Rattle.ats_consistency.specs.Strings.{extract}
+use Rattle.ats_consistency.specs.Strings.{growth_collision}
 use Rattle.ats_consistency.specs.Value.{Growth}
 
 -- nothing was withdrawn: the old texts are the first of the new ones
@@ -21,4 +21,4 @@ pub record HasGrown (older newer : Archive) (m n : ℕ) : Type 0 where
 abbrev pub IsGrownOrCollides : (List ℕ → List ℕ) → List ℕ → List ℕ → Growth → Type 0
 IsGrownOrCollides H old new g = (older newer : Archive) → AreTexts older.texts → AreTexts newer.texts
     → root_of H older ≡ old → root_of H newer ≡ new
-    → HasGrown older newer g.old.documents g.new.documents ⊎ IsSome (extract H older newer g)
+    → HasGrown older newer g.old.documents g.new.documents ⊎ IsSome (growth_collision H older newer g)

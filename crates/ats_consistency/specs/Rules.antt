@@ -1,6 +1,6 @@
 -- When a growth is accepted under two roots, and by which rule it is refused otherwise.
 use Rattle.std.specs.Prelude.{◌≡◌, ◌≢◌, ◌≤◌, ◌<◌, ℕ, List, [], ◌∷◌, length, reverse, true}
-use Rattle.ats_base.specs.Rules.{Group, AreKept, IsFirstFault}
+use Rattle.ats_base.specs.Rules.{Group, AllHold, IsFirstFault}
 use Rattle.ats_commit.specs.Root.{header_root}
 use Rattle.ats_consistency.specs.Pair.{Roots, roots}
 use Rattle.ats_consistency.specs.Shape.{turns, need}
@@ -55,8 +55,8 @@ rules H old new g =
 
 -- all rules hold
 pub record AcceptsGrowth (H : List ℕ → List ℕ) (old new : List ℕ) (g : Growth) : Type 0 where
-  pub kept : AreKept (rules H old new g)
+  pub kept : AllHold (rules H old new g)
 
 -- the first rule that the growth breaks
-pub record IsFirstRefusal (H : List ℕ → List ℕ) (old new : List ℕ) (g : Growth) (refusal : GrowthRefusal) : Type 0 where
+pub record IsFirstGrowthRefusal (H : List ℕ → List ℕ) (old new : List ℕ) (g : Growth) (refusal : GrowthRefusal) : Type 0 where
   pub first : IsFirstFault (rules H old new g) refusal

@@ -101,5 +101,5 @@ abbrev pub second_of : Beside → Option (List ℕ)
 second_of place = place.second
 
 -- the first pair of different strings with equal digests
-abbrev pub extract : (List ℕ → List ℕ) → Archive → Archive → Growth → Option (Difference Beside)
-extract H older newer g = first_collision H second_of (pairs H older newer g)
+abbrev pub growth_collision : (List ℕ → List ℕ) → Archive → Archive → Growth → Option (Difference Beside)
+growth_collision H older newer g = first_collision H second_of (pairs H older newer g)

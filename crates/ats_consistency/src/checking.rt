@@ -2,7 +2,7 @@
 
 ghost use Rattle.std.specs.Prelude.{◌≡◌, ◌+◌, ◌≤◌, ◌^◌, length, IsOk, OnOk, IfOk, IfErr};
 ghost use Rattle.ats_consistency.specs.Headline.{IsGrownOrCollides};
-ghost use Rattle.ats_consistency.specs.Rules.{AcceptsGrowth, IsFirstRefusal, digests_needed, texts_roots};
+ghost use Rattle.ats_consistency.specs.Rules.{AcceptsGrowth, IsFirstGrowthRefusal, digests_needed, texts_roots};
 
 use crate::pairing::{RootPair, digests_needed, roots_of};
 use crate::view::GrowthView;
@@ -52,7 +52,7 @@ fn checked<'a, H: Hash32>(
     requires count { steps.old ≤ 2 ^ 62 }
     ensures accepts { OnOk result (AcceptsGrowth H.hash old.now new.now proof.now) }
     ensures numbers { IfOk result (λ grown. (grown.old ≡ proof.now.old.documents) × (grown.new ≡ proof.now.new.documents)) }
-    ensures refused { IfErr result (IsFirstRefusal H.hash old.now new.now proof.now) }
+    ensures refused { IfErr result (IsFirstGrowthRefusal H.hash old.now new.now proof.now) }
     ensures steps { steps.new ≤ steps.old + 70 }
 {
     proof.is_in_range();
@@ -96,7 +96,7 @@ pub fn check_growth<'a, H: Hash32>(
     ensures numbers { IfOk result (λ grown. (grown.old ≡ proof.now.old.documents) × (grown.new ≡ proof.now.new.documents)) }
     ensures grown { OnOk result (IsGrownOrCollides H.hash old.now new.now proof.now) }
     ensures exact { AcceptsGrowth H.hash old.now new.now proof.now → IsOk result }
-    ensures refused { IfErr result (IsFirstRefusal H.hash old.now new.now proof.now) }
+    ensures refused { IfErr result (IsFirstGrowthRefusal H.hash old.now new.now proof.now) }
     ensures steps { steps.new ≤ steps.old + 70 }
 {
     proof.is_in_range();

@@ -6,7 +6,7 @@ ghost use Rattle.ats_tree.specs.Tree.{tree_of};
 ghost use Rattle.ats_consistency.specs.Bytes.{IsAcceptedGrowth};
 ghost use Rattle.ats_consistency.specs.Headline.{IsGrownOrCollides};
 ghost use Rattle.ats_consistency.specs.Pair.{roots};
-ghost use Rattle.ats_consistency.specs.Rules.{AcceptsGrowth, IsFirstRefusal};
+ghost use Rattle.ats_consistency.specs.Rules.{AcceptsGrowth, IsFirstGrowthRefusal};
 ghost use Rattle.ats_consistency.specs.Shape.{turns, need};
 ghost use Rattle.ats_consistency.specs.Strings.{ranges, AreRangesOf};
 ghost use Rattle.ats_consistency.specs.Value.{Growth, IsGrowth, AreInRange};
@@ -84,9 +84,9 @@ pub fn growths_in_range_are_spelled()
 /// A growth is refused by at most one rule, and not if it is accepted.
 pub fn growths_are_refused_once<H: HashKind>()
     ensures one { (old new : List ℕ) (g : Growth) (a b : GrowthRefusal)
-        → IsFirstRefusal H.hash old new g a → IsFirstRefusal H.hash old new g b → a ≡ b }
+        → IsFirstGrowthRefusal H.hash old new g a → IsFirstGrowthRefusal H.hash old new g b → a ≡ b }
     ensures apart { (old new : List ℕ) (g : Growth) (a : GrowthRefusal)
-        → AcceptsGrowth H.hash old new g → IsFirstRefusal H.hash old new g a → ⊥ }
+        → AcceptsGrowth H.hash old new g → IsFirstGrowthRefusal H.hash old new g a → ⊥ }
 {}
 
 /// The headline: for all archives with the two roots under which bytes are accepted, either nothing was withdrawn, or the

@@ -14,7 +14,7 @@ use Rattle.ats_inclusion.specs.Bytes.{IsAcceptedText, IsRefusedText}
 use Rattle.ats_inclusion.proofs.Public.{one_text}
 use Rattle.ats_inclusion.proofs.Public as texts
 use Rattle.ats_consistency.specs.Grammar.{growth_schema}
-use Rattle.ats_consistency.specs.Rules.{AcceptsGrowth, IsFirstRefusal}
+use Rattle.ats_consistency.specs.Rules.{AcceptsGrowth, IsFirstGrowthRefusal}
 use Rattle.ats_consistency.specs.Value.{IsGrowth}
 use Rattle.ats_consistency.specs.Value as growth
 use Rattle.ats_consistency.specs.Bytes.{IsAcceptedGrowth, IsRefusedGrowth}
@@ -73,9 +73,9 @@ module _ (H : List ℕ → List ℕ) where
 
   growth_file_one : (old new bytes : List ℕ) → IsFileOne (IsAcceptedGrowth H old new bytes) (IsBad growth_schema bytes) (IsRefusedGrowth H old new bytes)
   growth_file_one old new bytes =
-      file_of_rules (IsGrowth bytes) (AcceptsGrowth H old new) (IsFirstRefusal H old new) (λ v is. (is.says, is.accepts)) (λ f is. (is.growth, is.says, is.refused))
+      file_of_rules (IsGrowth bytes) (AcceptsGrowth H old new) (IsFirstGrowthRefusal H old new) (λ v is. (is.says, is.accepts)) (λ f is. (is.growth, is.says, is.refused))
       (one_growth bytes) (λ v fault says wrong. no_fault growth_schema bytes fault (growth.fields_of v) wrong says) (one_fault growth_schema bytes)
-      (growths.accepted_kept H old new) (growths.one_refusal H old new)
+      (growths.accepted_not_refused H old new) (growths.one_refusal H old new)
 
   pub growth_one : (old new : List ℕ) → IsKindOne (growth_kind H old new)
   growth_one old new = record { one = λ bytes. file_one growth_refusal_words (growth_file_one old new bytes); free = λ bytes. not_usage growth_refusal_words }

@@ -20,7 +20,7 @@ use Rattle.ats_proof.specs.Value.{Proof}
 use Rattle.ats_proof.proofs.Public.{one_value}
 use Rattle.ats_client.specs.Bytes.{IsAcceptedBytes}
 use Rattle.ats_refusal.specs.declared.proof.Rejection.{Rejection}
-use Rattle.ats_client.proofs.Public.{accepted_kept, one_rejection}
+use Rattle.ats_client.proofs.Public.{accepted_not_refused, one_rejection}
 use Rattle.ats_plan.specs.Files.{Files}
 use Rattle.ats_plan.specs.Plan.{Plan, Finishes, Stores, Fails, Tries, Gets, Makes, Reads}
 use Rattle.ats_plan.specs.Inner.Avoids.{Avoids}
@@ -162,15 +162,15 @@ pub one_accepted : (H : List ℕ → List ℕ) (root : List ℕ) (query : List (
 one_accepted H root query r bytes a b is also = one_value bytes a b is.says also.says
 
 module _ (H : List ℕ → List ℕ) (root : List ℕ) (query : List (List ℕ × ℕ)) (r : ℕ) (bytes : List ℕ) where
-  rejected_kept : (proof : Proof) (stop : Stop) → RejectsBytes H root query r bytes stop → IsAcceptedBytes H root query r bytes proof → ⊥
-  rejected_kept proof stop (rejection, rejected, same) accepted = accepted_kept H root query r bytes proof rejection accepted rejected
+  rejected_not_accepted : (proof : Proof) (stop : Stop) → RejectsBytes H root query r bytes stop → IsAcceptedBytes H root query r bytes proof → ⊥
+  rejected_not_accepted proof stop (rejection, rejected, same) accepted = accepted_not_refused H root query r bytes proof rejection accepted rejected
 
   one_reject : (a b : Stop) → RejectsBytes H root query r bytes a → RejectsBytes H root query r bytes b → a ≡ b
   one_reject a b (rejection, is, same) (other, also, like) =
       same ∙ ap (λ (why : Rejection). Rejected (line_of_rejection why)) (one_rejection H root query r bytes rejection other is also) ∙ sym like
 
   proof_one : IsOne (IsAcceptedBytes H root query r bytes) (RejectsBytes H root query r bytes)
-  proof_one = record { single = one_accepted H root query r bytes; breaks = rejected_kept; one = one_reject }
+  proof_one = record { single = one_accepted H root query r bytes; breaks = rejected_not_accepted; one = one_reject }
 
 pub query_sound : {text : List ℕ} {rest : List (List ℕ × ℕ) → Plan Stop} → ((query : List (List ℕ × ℕ)) → Sound (rest query)) → Sound (asks_query text rest)
 query_sound {text = text} later = gets (query_one text) (λ stops. not_query stops.0 stops.2) later

@@ -19,10 +19,10 @@
 mod collision;
 mod input;
 mod kinds;
+mod phrase_line;
 mod print;
 pub mod read;
 mod rejection;
-mod said;
 mod stop_lines;
 mod stops;
 mod words;
@@ -30,9 +30,9 @@ mod words;
 pub use collision::{collision_lines, pair_lines, strings_lines};
 pub use input::{JsonFault, read_collection};
 pub use kinds::{GROWTH_FILE_LIMIT, TEXT_FILE_LIMIT, grown_line, print_text, refused};
+pub use phrase_line::PhraseLine;
 pub use print::{document_lines, lines, root_line};
 pub use rejection::rejection_line;
-pub use said::Said;
 pub use stop_lines::Line;
 pub use stops::{
     Stop, bad_line, faults_line, file_too_long, input_stop, peer, proof_too_long, proofs_too_long,

@@ -2,14 +2,14 @@
 
 ghost use Rattle.std.specs.Prelude.{◌≡◌, ◌++◌, IfOk};
 
-use crate::said::Said;
+use crate::phrase_line::PhraseLine;
 use ats_refusal::Phrase;
 use std::alloc::{AllocError, Global};
 use std::marker::Model;
 
 #[derive(Drop)]
 enum Text {
-    Said(Said),
+    PhraseLine(PhraseLine),
     Made(Vec<u8>),
 }
 
@@ -35,7 +35,7 @@ impl Line {
         ensures { result ≡ front.now ++ (phrase ++ end.now) }
     {
         Line {
-            text: Text::Said(Said::new(front, phrase, end)),
+            text: Text::PhraseLine(PhraseLine::new(front, phrase, end)),
         }
     }
 
@@ -53,7 +53,7 @@ impl Line {
         ensures { IfOk result (λ bytes. bytes.items ≡ self) }
     {
         match self.text {
-            Text::Said(said) => Ok(said.text(alloc)?.into_bytes()),
+            Text::PhraseLine(said) => Ok(said.text(alloc)?.into_bytes()),
             Text::Made(bytes) => Ok(bytes),
         }
     }

@@ -15,9 +15,9 @@ use Rattle.ats_tree.specs.Strings.{node_string, node_strings}
 use Rattle.ats_tree.specs.declared.clashing.Clash.{Clash}
 use Rattle.ats_tree.proofs.Public.{collision-moved, moved_collision, numbers-back, numbers-lead}
 use Rattle.ats_inclusion.specs.Accepts.{AcceptsText, shown_text}
-use Rattle.ats_inclusion.specs.Strings.{TextPlace, header_place, in_texts, own_text_string, text_extract}
+use Rattle.ats_inclusion.specs.Strings.{TextPlace, header_place, in_texts, own_text_string, text_collision}
 use Rattle.ats_inclusion.specs.Value.{TextProof, IsTextInRange}
-use Rattle.ats_inclusion.proofs.Public.{tree_strings_of, text-extracts}
+use Rattle.ats_inclusion.proofs.Public.{tree_strings_of, text-collision-is-difference}
 use Rattle.ats_fetch.specs.Inner.Clashes.{IsHeaderClash, difference_in}
 use Rattle.ats_fetch.specs.Inner.TextString.{bytes_of}
 use Rattle.ats_fetch.specs.Verdicts.{difference_of}
@@ -27,26 +27,26 @@ use Rattle.ats_fetch.specs.declared.verdict.TextClash.{TextClash}
 -- ---- the header
 
 -- below a header of one's own
-extract_below : (H : List ℕ → List ℕ) (archive : Archive) (doc : ℕ) (proof : TextProof) → HasOwnHeader H archive proof.format proof.header
-    → text_extract H archive doc proof ≡ first_collision H (own_text_string H archive) (tree_strings_of H doc proof)
-extract_below H archive doc proof equal =
+collision_below : (H : List ℕ → List ℕ) (archive : Archive) (doc : ℕ) (proof : TextProof) → HasOwnHeader H archive proof.format proof.header
+    → text_collision H archive doc proof ≡ first_collision H (own_text_string H archive) (tree_strings_of H doc proof)
+collision_below H archive doc proof equal =
     cond-true _ _ _ (ap (λ same. same || not (bytes_eq (H (own_header_string H archive)) (H (header_string proof.format proof.header)))) equal)
 
 -- the same of what is found there
 pub below_found : (H : List ℕ → List ℕ) (archive : Archive) (doc : ℕ) (proof : TextProof) → HasOwnHeader H archive proof.format proof.header → {E : Type 0} → (result : Result (Option TextClash) E)
     → IfOk result (λ found. option_map difference_of found ≡ first_collision H (own_text_string H archive) (tree_strings_of H doc proof))
-    → IfOk result (λ found. option_map difference_of found ≡ text_extract H archive doc proof)
-below_found H archive doc proof equal (Ok found) is = is ∙ sym (extract_below H archive doc proof equal)
+    → IfOk result (λ found. option_map difference_of found ≡ text_collision H archive doc proof)
+below_found H archive doc proof equal (Ok found) is = is ∙ sym (collision_below H archive doc proof equal)
 below_found H archive doc proof equal (Err fault) is = tt
 
 module _ (H : List ℕ → List ℕ) (sized : (m : List ℕ) → length (H m) ≡ 32) (archive : Archive) (doc : ℕ) (proof : TextProof) (are : AreTexts archive.texts) (range : IsTextInRange proof)
     (accepts : AcceptsText H (root_of H archive) doc proof) where
   -- another header
-  pub extract_header : (clash : TextClash) → IsHeaderClash H archive proof clash → Some (difference_of clash) ≡ text_extract H archive doc proof
-  extract_header clash is =
+  pub collision_at_header : (clash : TextClash) → IsHeaderClash H archive proof clash → Some (difference_of clash) ≡ text_collision H archive doc proof
+  collision_at_header clash is =
       let here : Difference TextPlace = record { place = header_place; ours = own_header_string H archive; theirs = header_string proof.format proof.header } in
       let same : difference_of clash ≡ here = λ i. record { place = is.place i; ours = is.ours i; theirs = is.theirs i } in
-      ap Some same ∙ sym (text-extracts H sized archive doc proof are range accepts ∙ cond-false _ _ _ is.differs)
+      ap Some same ∙ sym (text-collision-is-difference H sized archive doc proof are range accepts ∙ cond-false _ _ _ is.differs)
 
 -- ---- the texts tree
 

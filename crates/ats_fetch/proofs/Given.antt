@@ -18,7 +18,7 @@ use Rattle.ats_tree.specs.Strings.{node_string, node_strings}
 use Rattle.ats_tree.specs.Tree.{mth, tree_of}
 use Rattle.ats_tree.proofs.Public.{elided-rebuilds, elided-sized, numbers-lead, own-none, own-strings}
 use Rattle.ats_inclusion.specs.Accepts.{shown_text, AcceptsText}
-use Rattle.ats_inclusion.specs.Strings.{TextPlace, in_texts, own_text_string, text_strings, text_extract, IsOwnText}
+use Rattle.ats_inclusion.specs.Strings.{TextPlace, in_texts, own_text_string, text_strings, text_collision, IsOwnText}
 use Rattle.ats_inclusion.specs.Value.{TextProof, IsTextInRange}
 use Rattle.ats_inclusion.proofs.Public.{tree_strings_of}
 use Rattle.ats_fetch.specs.Given.{given_text}
@@ -67,7 +67,7 @@ module _ (H : List ℕ → List ℕ) (sized : (m : List ℕ) → length (H m) �
       subst ByNode (λ i node. ap (node_string H archive.texts) (sym (numbers-lead node)) i) (own-strings H archive.texts (doc ∷ [])) in
       All-map Own (moved in_texts) (map (moved numbers_of) strings) (All-map (λ (s : Hashed NodeNumbers). Own (moved in_texts s)) (moved numbers_of) strings own)
 
-  pub given-none : text_extract H archive doc given ≡ None
+  pub given-none : text_collision H archive doc given ≡ None
   given-none =
       own-none H (own_text_string H archive) (text_strings H doc given)
       (All-cons (IsOurs (own_text_string H archive)) _ (tree_strings_of H doc given) refl own-tree)

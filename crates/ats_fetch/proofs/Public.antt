@@ -2,8 +2,8 @@
 
 -- what an archive gives is in its ranges, is accepted, has no collision and is the archive's own text
 pub use Rattle.ats_fetch.proofs.Given.{given-in_range, given-accepted, given-none, given-own}
--- a collision extracted from a text is two different strings with equal digests
-pub use Rattle.ats_fetch.proofs.Verdicts.{extract-collides}
+-- the first collision of a text is two different strings with equal digests
+pub use Rattle.ats_fetch.proofs.Verdicts.{collision-collides}
 -- for each archive with the root, an accepted text is the archive's own, or each verdict tells a collision
 pub use Rattle.ats_fetch.proofs.Verdicts.{told}
 -- the only verdict on what an archive gives is that it is right

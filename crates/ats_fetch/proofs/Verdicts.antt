@@ -8,7 +8,7 @@ use Rattle.ats_tree.specs.Differences.{Difference}
 use Rattle.ats_tree.proofs.Public.{AreColliding, found-collides, none_some}
 use Rattle.ats_inclusion.specs.Grammar.{text_schema}
 use Rattle.ats_inclusion.specs.Accepts.{AcceptsText}
-use Rattle.ats_inclusion.specs.Strings.{TextPlace, own_text_string, text_strings, text_extract}
+use Rattle.ats_inclusion.specs.Strings.{TextPlace, own_text_string, text_strings, text_collision}
 use Rattle.ats_inclusion.specs.Value.{TextProof, fields_of, IsTextProof}
 use Rattle.ats_inclusion.specs.Bytes.{IsAcceptedText}
 use Rattle.ats_inclusion.proofs.Public.{in_range, one_text, own_or_collides, not_refused}
@@ -18,9 +18,9 @@ use Rattle.ats_fetch.specs.declared.verdict.TextVerdict.{TextVerdict}
 use Rattle.ats_fetch.specs.declared.verdict.TextVerdict.TheVariants.{BadShape, Refused, Right, Collision}
 use Rattle.ats_fetch.proofs.Given.{given-accepted, given-none}
 
-pub extract-collides : (H : List ℕ → List ℕ) (archive : Archive) (doc : ℕ) (proof : TextProof) (c : Difference TextPlace)
-    → text_extract H archive doc proof ≡ Some c → AreColliding H c
-extract-collides H archive doc proof c is = found-collides H (own_text_string H archive) (text_strings H doc proof) c is
+pub collision-collides : (H : List ℕ → List ℕ) (archive : Archive) (doc : ℕ) (proof : TextProof) (c : Difference TextPlace)
+    → text_collision H archive doc proof ≡ Some c → AreColliding H c
+collision-collides H archive doc proof c is = found-collides H (own_text_string H archive) (text_strings H doc proof) c is
 
 -- ---- the verdict on an accepted text
 
@@ -28,22 +28,22 @@ module _ (H : List ℕ → List ℕ) (archive : Archive) (doc : ℕ) (bytes : Li
   no_refusal : (other : TextProof) → IsTextProof bytes other → AcceptsText H (root_of H archive) doc other
   no_refusal other says = subst (AcceptsText H (root_of H archive) doc) (one_text bytes proof other accepted.says says) accepted.accepts
 
-  tells : IsSome (text_extract H archive doc proof) → (verdict : TextVerdict) → IsTextVerdict H archive doc bytes verdict → TellsTextCollision H verdict
+  tells : IsSome (text_collision H archive doc proof) → (verdict : TextVerdict) → IsTextVerdict H archive doc bytes verdict → TellsTextCollision H verdict
   tells some (BadShape fault) found = no_fault text_schema bytes fault (fields_of proof) found accepted.says.spells
   tells some (Refused refusal) found = not_refused H (root_of H archive) doc found.proof refusal (no_refusal found.proof found.says) found.refused
   tells some Right found =
-      none_some (text_extract H archive doc found.proof) found.none
-      (subst (λ (p : TextProof). IsSome (text_extract H archive doc p)) (one_text bytes proof found.proof accepted.says found.accepted.says) some)
-  tells some (Collision clash) found = extract-collides H archive doc found.proof _ found.found
+      none_some (text_collision H archive doc found.proof) found.none
+      (subst (λ (p : TextProof). IsSome (text_collision H archive doc p)) (one_text bytes proof found.proof accepted.says found.accepted.says) some)
+  tells some (Collision clash) found = collision-collides H archive doc found.proof _ found.found
 
   -- if there is no collision, the text is found right
-  only_right : text_extract H archive doc proof ≡ None → (verdict : TextVerdict) → IsTextVerdict H archive doc bytes verdict → verdict ≡ Right
+  only_right : text_collision H archive doc proof ≡ None → (verdict : TextVerdict) → IsTextVerdict H archive doc bytes verdict → verdict ≡ Right
   only_right none (BadShape fault) found = absurd (no_fault text_schema bytes fault (fields_of proof) found accepted.says.spells)
   only_right none (Refused refusal) found = absurd (not_refused H (root_of H archive) doc found.proof refusal (no_refusal found.proof found.says) found.refused)
   only_right none Right found = refl
   only_right none (Collision clash) found =
-      let there : text_extract H archive doc found.proof ≡ None =
-      subst (λ (p : TextProof). text_extract H archive doc p ≡ None) (one_text bytes proof found.proof accepted.says found.accepted.says) none in
+      let there : text_collision H archive doc found.proof ≡ None =
+      subst (λ (p : TextProof). text_collision H archive doc p ≡ None) (one_text bytes proof found.proof accepted.says found.accepted.says) none in
       let is = found.found in
       absurd (cc)
 

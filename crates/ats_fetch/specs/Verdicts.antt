@@ -7,7 +7,7 @@ use Rattle.ats_grammar.specs.Front.{IsBad}
 use Rattle.ats_tree.specs.Differences.{Difference}
 use Rattle.ats_inclusion.specs.Bytes.{IsAcceptedText, IsRefusedText}
 use Rattle.ats_inclusion.specs.Grammar.{text_schema}
-use Rattle.ats_inclusion.specs.Strings.{TextPlace, text_extract, IsOwnText}
+use Rattle.ats_inclusion.specs.Strings.{TextPlace, text_collision, IsOwnText}
 use Rattle.ats_inclusion.specs.Value.{TextProof}
 use Rattle.ats_fetch.specs.declared.verdict.TextClash.{TextClash}
 use Rattle.ats_fetch.specs.declared.verdict.TextVerdict.{TextVerdict}
@@ -25,14 +25,14 @@ difference_of clash = record {
 pub record IsFoundOwn (H : List ℕ → List ℕ) (archive : Archive) (doc : ℕ) (bytes : List ℕ) : Type 0 where
   pub proof : TextProof
   pub accepted : IsAcceptedText H (root_of H archive) doc bytes proof
-  pub none : text_extract H archive doc proof ≡ None
+  pub none : text_collision H archive doc proof ≡ None
   pub own : IsOwnText archive doc proof
 
 -- the bytes are accepted under the archive's root, and this is their first collision with the archive
 pub record IsFoundClash (H : List ℕ → List ℕ) (archive : Archive) (doc : ℕ) (bytes : List ℕ) (clash : TextClash) : Type 0 where
   pub proof : TextProof
   pub accepted : IsAcceptedText H (root_of H archive) doc bytes proof
-  pub found : text_extract H archive doc proof ≡ Some (difference_of clash)
+  pub found : text_collision H archive doc proof ≡ Some (difference_of clash)
 
 -- the verdict on the bytes against the archive
 abbrev pub IsTextVerdict : (List ℕ → List ℕ) → Archive → ℕ → List ℕ → TextVerdict → Type 0

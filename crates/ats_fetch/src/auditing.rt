@@ -8,7 +8,7 @@ ghost use Rattle.ats_tree.specs.Differences.{moved, first_collision};
 ghost use Rattle.ats_tree.specs.Nodes.{numbers_of};
 ghost use Rattle.ats_tree.specs.Strings.{node_strings};
 ghost use Rattle.ats_inclusion.specs.Accepts.{AcceptsText, shown_text};
-ghost use Rattle.ats_inclusion.specs.Strings.{text_extract, in_texts, own_text_string};
+ghost use Rattle.ats_inclusion.specs.Strings.{text_collision, in_texts, own_text_string};
 ghost use Rattle.ats_fetch.specs.Inner.Clashes.{IsHeaderClash, difference_in};
 ghost use Rattle.ats_fetch.specs.Verdicts.{IsTextVerdict, IsWellTold, IsPlaced, difference_of};
 
@@ -100,7 +100,7 @@ fn text_clash<H: Hash32>(
     proof: &TextView<'_>,
 ) -> Result<Option<TextClash>, OutOfMemory>
     requires { AcceptsText H.hash (root_of H.hash index.now) doc proof.now }
-    ensures clash { IfOk result (λ found. option_map difference_of found ≡ text_extract H.hash index.now doc proof.now) }
+    ensures clash { IfOk result (λ found. option_map difference_of found ≡ text_collision H.hash index.now doc proof.now) }
     ensures place { IfOk result (λ found. IfSome found IsPlaced) }
 {
     // An index has texts within the limits.

@@ -6,7 +6,7 @@ ghost use Rattle.ats_commit.specs.Archive.{Archive};
 ghost use Rattle.ats_commit.specs.Own.{AreTexts};
 ghost use Rattle.ats_commit.specs.Root.{root_of};
 ghost use Rattle.ats_inclusion.specs.Accepts.{AcceptsText};
-ghost use Rattle.ats_inclusion.specs.Strings.{text_extract, IsOwnText};
+ghost use Rattle.ats_inclusion.specs.Strings.{text_collision, IsOwnText};
 ghost use Rattle.ats_inclusion.specs.Value.{IsTextProof, TextProof};
 ghost use Rattle.ats_fetch.specs.Given.{given_text};
 ghost use Rattle.ats_fetch.specs.Verdicts.{IsTextVerdict, IsOwnOrTold};
@@ -30,7 +30,7 @@ pub fn given_texts_are_accepted<H: HashKind>()
     ensures accepted { (archive : Archive) (doc : ℕ) → AreTexts archive.texts → doc < length archive.texts
         → AcceptsText H.hash (root_of H.hash archive) doc (given_text H.hash archive doc) }
     ensures none { (archive : Archive) (doc : ℕ) → AreTexts archive.texts → doc < length archive.texts
-        → text_extract H.hash archive doc (given_text H.hash archive doc) ≡ None }
+        → text_collision H.hash archive doc (given_text H.hash archive doc) ≡ None }
     ensures own { (archive : Archive) (doc : ℕ) → AreTexts archive.texts → doc < length archive.texts
         → IsOwnText archive doc (given_text H.hash archive doc) }
     ensures right { (archive : Archive) (doc : ℕ) (bytes : List ℕ) (verdict : TextVerdict)

@@ -7,8 +7,8 @@ use Rattle.std.proofs.lemmas.List.Folds.{concat-append}
 use Rattle.ats_grammar.specs.declared.fault.ShapeFault.{ShapeFault}
 use Rattle.ats_grammar.specs.declared.fault.ShapeKind.{ShapeKind}
 use Rattle.ats_grammar.specs.declared.fault.ShapeKind.TheVariants.{Trailing}
-use Rattle.ats_grammar.specs.declared.next.Next.{Next}
-use Rattle.ats_grammar.specs.declared.next.Next.TheVariants as next
+use Rattle.ats_grammar.specs.declared.field_kinds.Next.{Next}
+use Rattle.ats_grammar.specs.declared.field_kinds.Next.TheVariants as next
 use Rattle.ats_grammar.specs.Table.{Table, Schema, End, Number, Bytes, number, head, follow, size_of}
 use Rattle.ats_grammar.specs.Front.{IsField, Come, IsFront, Spells, IsSpelling, IsLongest, IsBad, IsOpen, kind_of}
 use Rattle.ats_grammar.specs.Reading.{IsNumberOf, IsReached}

@@ -7,18 +7,18 @@ use Rattle.std.proofs.lemmas.List.{append-nil, take_at, take-append-drop, length
 use Rattle.ats_grammar.specs.declared.fault.ShapeFault.{ShapeFault}
 use Rattle.ats_grammar.specs.declared.fault.ShapeKind.{ShapeKind}
 use Rattle.ats_grammar.specs.declared.fault.ShapeKind.TheVariants.{Cut}
-use Rattle.ats_grammar.specs.declared.next.Next.{Next}
-use Rattle.ats_grammar.specs.declared.next.Next.TheVariants as next
-use Rattle.ats_grammar.specs.declared.stand.Stand.{Stand}
+use Rattle.ats_grammar.specs.declared.field_kinds.Next.{Next}
+use Rattle.ats_grammar.specs.declared.field_kinds.Next.TheVariants as next
+use Rattle.ats_grammar.specs.declared.piece_position.PiecePosition.{PiecePosition}
 use Rattle.ats_grammar.specs.Table.{Table, End, Number, Bytes, number, head, follow, size_of}
 use Rattle.ats_grammar.specs.Grammar.{proof_schema}
 use Rattle.ats_grammar.specs.Front.{IsField, IsFront, IsSpelling, IsFirst, IsBad}
-use Rattle.ats_grammar.specs.State.{remaining}
+use Rattle.ats_grammar.specs.ReaderState.{remaining}
 use Rattle.ats_grammar.specs.Reading.{IsNumberOf, IsReached}
 use Rattle.ats_grammar.specs.Inner.Reading.{IsTaken, IsStuck, IsRefused}
 use Rattle.ats_grammar.specs.Inner.Pending.{is_cut, is_term, may_be_empty, HasOwnKind}
-use Rattle.ats_grammar.specs.Standing.{IsAt, IsWaiting}
-use Rattle.ats_grammar.specs.Inner.Standing.{IsOn, IsWrong}
+use Rattle.ats_grammar.specs.PiecePosition.{IsAt, IsWaiting}
+use Rattle.ats_grammar.specs.Inner.PiecePosition.{IsOn, IsWrong}
 use Rattle.ats_grammar.specs.declared.feeder.Place.{Place}
 use Rattle.ats_grammar.specs.declared.feeder.Place.TheVariants as places
 use Rattle.ats_grammar.specs.Feeding.{StandsAt}
@@ -67,7 +67,7 @@ list_cases [] = inl refl
 list_cases (x ∷ xs) = inr (omega arith)
 
 -- a field is whole: it was begun, and the part makes it whole
-pub at_whole : (bytes : List ℕ) (stand after : Stand) (part rest : List ℕ) (n : ℕ) → IsAt bytes stand (part ++ rest)
+pub at_whole : (bytes : List ℕ) (stand after : PiecePosition) (part rest : List ℕ) (n : ℕ) → IsAt bytes stand (part ++ rest)
     → ((left : List ℕ) → length left ≡ stand.came → IsNumberOf (head (remaining stand.state)) left stand.number
     → IsField (head (remaining stand.state)) (left ++ part) × IsNumberOf (head (remaining stand.state)) (left ++ part) n)
     → remaining after.state ≡ follow (remaining stand.state) n → after.came ≡ 0 → after.number ≡ 0 → IsAt bytes after rest
@@ -83,7 +83,7 @@ at_whole bytes stand after part rest n at whole follows none nought =
     }
 
 -- a part of a field was read
-pub at_part : (bytes : List ℕ) (stand after : Stand) (part rest : List ℕ) → IsAt bytes stand (part ++ rest)
+pub at_part : (bytes : List ℕ) (stand after : PiecePosition) (part rest : List ℕ) → IsAt bytes stand (part ++ rest)
     → after.state ≡ stand.state → after.came ≡ stand.came + length part
     → ((left : List ℕ) → IsNumberOf (head (remaining stand.state)) left stand.number → IsNumberOf (head (remaining stand.state)) (left ++ part) after.number)
     → IsAt bytes after rest
@@ -96,7 +96,7 @@ at_part bytes stand after part rest at same came value = record {
 }
 
 -- nothing of the field was read
-pub at_start : (bytes : List ℕ) (stand : Stand) (rest : List ℕ) → IsAt bytes stand rest → stand.came ≡ 0 → IsReached proof_schema bytes (remaining stand.state) rest
+pub at_start : (bytes : List ℕ) (stand : PiecePosition) (rest : List ℕ) → IsAt bytes stand rest → stand.came ≡ 0 → IsReached proof_schema bytes (remaining stand.state) rest
 at_start bytes stand rest at none = elim (list_cases at.left) [
   | inl is ↦ subst (λ (xs : List ℕ). IsReached proof_schema bytes (remaining stand.state) (xs ++ rest)) is at.reached
   | inr some ↦ absurd (omega (arith, some, at.many, none))
@@ -112,7 +112,7 @@ own_refusal (next.Number size low high other) rest kind own enough is =
 own_refusal (next.Bytes size) rest kind own enough is =
     absurd (is.stuck (take size rest) (drop size rest) (sym (take-append-drop size rest)) (length-take-le size rest enough))
 
-pub wrong_start : (bytes : List ℕ) (stand : Stand) (rest : List ℕ) (kind : ShapeKind) → IsAt bytes stand rest → stand.came ≡ 0 → IsRefused (head (remaining stand.state)) rest kind → kind ≢ Cut
+pub wrong_start : (bytes : List ℕ) (stand : PiecePosition) (rest : List ℕ) (kind : ShapeKind) → IsAt bytes stand rest → stand.came ≡ 0 → IsRefused (head (remaining stand.state)) rest kind → kind ≢ Cut
     → IsWrong bytes kind (stand.came + length rest)
 wrong_start bytes stand rest kind at none is here = record {
   table = remaining stand.state;
@@ -125,7 +125,7 @@ wrong_start bytes stand rest kind at none is here = record {
 
 -- ---- whole steps
 
-pub on_taken : (stand after : Stand) (rest behind : List ℕ) (n : ℕ) → stand.came ≡ 0 → IsTaken (head (remaining stand.state)) rest n behind
+pub on_taken : (stand after : PiecePosition) (rest behind : List ℕ) (n : ℕ) → stand.came ≡ 0 → IsTaken (head (remaining stand.state)) rest n behind
     → remaining after.state ≡ follow (remaining stand.state) n → after.came ≡ 0 → after.number ≡ 0
     → may_be_empty after.state.part < may_be_empty stand.state.part + 2 * size_of (head (remaining stand.state)) → IsOn stand rest after behind
 on_taken stand after rest behind n none taken follows start nought smaller =
@@ -143,7 +143,7 @@ on_taken stand after rest behind n none taken follows start nought smaller =
       smaller = omega (arith, long, smaller);
     }
 
-pub on_whole : (stand after : Stand) (part rest : List ℕ) (n : ℕ)
+pub on_whole : (stand after : PiecePosition) (part rest : List ℕ) (n : ℕ)
     → ((left : List ℕ) → length left ≡ stand.came → IsNumberOf (head (remaining stand.state)) left stand.number
     → IsField (head (remaining stand.state)) (left ++ part) × IsNumberOf (head (remaining stand.state)) (left ++ part) n)
     → remaining after.state ≡ follow (remaining stand.state) n → after.came ≡ 0 → after.number ≡ 0 → 1 ≤ length part → IsOn stand (part ++ rest) after rest
@@ -153,7 +153,7 @@ on_whole stand after part rest n whole follows start nought some = record {
   smaller = omega (arith, some, length-append part rest, one_at_most (is_term after.state.part));
 }
 
-pub on_part : (stand after : Stand) (part rest : List ℕ) → after.state ≡ stand.state → after.came ≡ stand.came + length part
+pub on_part : (stand after : PiecePosition) (part rest : List ℕ) → after.state ≡ stand.state → after.came ≡ stand.came + length part
     → ((left : List ℕ) → IsNumberOf (head (remaining stand.state)) left stand.number → IsNumberOf (head (remaining stand.state)) (left ++ part) after.number)
     → 1 ≤ length part → IsOn stand (part ++ rest) after rest
 on_part stand after part rest same came value some = record {
@@ -183,7 +183,7 @@ number_whole t size low high kind left old b n is new long least most value =
 same_front : (f g l m : List ℕ) → length f ≡ length g → f ++ l ≡ g ++ m → f ≡ g
 same_front f g l m len e = sym (take_at f l (length f) refl) ∙ ap (take (length f)) e ∙ take_at g m (length f) (sym len)
 
-pub number_wrong : (bytes : List ℕ) (stand : Stand) (size low high : ℕ) (kind : ShapeKind) (b : ℕ) (rest : List ℕ) → head (remaining stand.state) ≡ next.Number size low high kind
+pub number_wrong : (bytes : List ℕ) (stand : PiecePosition) (size low high : ℕ) (kind : ShapeKind) (b : ℕ) (rest : List ℕ) → head (remaining stand.state) ≡ next.Number size low high kind
     → is_cut kind ≡ false → stand.came + 1 ≡ size → (stand.number * 256 + b < low) ⊎ (high < stand.number * 256 + b) → IsAt bytes stand (b ∷ rest)
     → IsWrong bytes kind (stand.came + 1 + length rest)
 number_wrong bytes stand size low high kind b rest is own last out at =
@@ -227,7 +227,7 @@ one_or_more zero = omega arith
 one_or_more (suc n) = omega (arith, pow-suc 256 n, one_or_more n)
 
 -- at most three bytes of a number were read, and the last one makes it whole
-pub came_of : (stand : Stand) (size low high : ℕ) (kind : ShapeKind) → head (remaining stand.state) ≡ next.Number size low high kind
+pub came_of : (stand : PiecePosition) (size low high : ℕ) (kind : ShapeKind) → head (remaining stand.state) ≡ next.Number size low high kind
     → (size ≡ 1) ⊎ (size ≡ 2) ⊎ (size ≡ 4) → (stand.came ≤ 3) × (size ≤ stand.came + 1 → stand.came + 1 ≡ size)
 came_of stand size low high kind is sized =
     let most : stand.came ≤ size - 1 = subst (λ n. stand.came ≤ size_of n - 1) is stand.inside in
@@ -240,7 +240,7 @@ came_of stand size low high kind is sized =
 -- ---- which bytes a feeder was fed
 
 -- one more piece after the bytes so far
-pub at_more : (bytes piece : List ℕ) (stand : Stand) → IsAt bytes stand [] → IsAt (bytes ++ piece) stand piece
+pub at_more : (bytes piece : List ℕ) (stand : PiecePosition) → IsAt bytes stand [] → IsAt (bytes ++ piece) stand piece
 at_more bytes piece stand at =
     let front = at.reached.front in
     let left : at.left ++ [] ≡ at.left = append-nil at.left in
@@ -290,7 +290,7 @@ missing (next.Bytes size) left waiting wanted = record {
 }
 
 -- if a field is missing, the bytes so far are cut
-pub cut_off : (bytes : List ℕ) (stand : Stand) (fault : ShapeFault) → length bytes ≤ 2 ^ 26 → IsAt bytes stand [] → IsWaiting (head (remaining stand.state)) stand.came
+pub cut_off : (bytes : List ℕ) (stand : PiecePosition) (fault : ShapeFault) → length bytes ≤ 2 ^ 26 → IsAt bytes stand [] → IsWaiting (head (remaining stand.state)) stand.came
     → (head (remaining stand.state) ≡ next.End → ⊥) → fault.kind ≡ Cut → fault.at + stand.came ≡ length bytes → IsBad proof_schema bytes fault
 cut_off bytes stand fault few at waiting wanted kind place =
     let there : IsWaiting (head (remaining stand.state)) (length (at.left ++ [])) =
@@ -300,7 +300,7 @@ cut_off bytes stand fault few at waiting wanted kind place =
     (omega (arith, place, at.many, length-append at.left []))
 
 -- if none is, they spell a proof
-pub spelled : (bytes : List ℕ) (stand : Stand) → length bytes ≤ 2 ^ 26 → IsAt bytes stand [] → IsWaiting (head (remaining stand.state)) stand.came
+pub spelled : (bytes : List ℕ) (stand : PiecePosition) → length bytes ≤ 2 ^ 26 → IsAt bytes stand [] → IsWaiting (head (remaining stand.state)) stand.came
     → head (remaining stand.state) ≡ next.End → IsSpelling proof_schema bytes
 spelled bytes stand few at waiting done =
     let none : stand.came ≡ 0 = subst (λ n. IsWaiting n stand.came) done waiting in
@@ -315,7 +315,7 @@ spelled bytes stand few at waiting done =
     }
 
 -- a fault of bytes that are read to their end is that they are cut
-pub only_cut : (bytes : List ℕ) (stand : Stand) (fault : ShapeFault) → length bytes ≤ 2 ^ 26 → IsAt bytes stand [] → IsWaiting (head (remaining stand.state)) stand.came
+pub only_cut : (bytes : List ℕ) (stand : PiecePosition) (fault : ShapeFault) → length bytes ≤ 2 ^ 26 → IsAt bytes stand [] → IsWaiting (head (remaining stand.state)) stand.came
     → IsBad proof_schema bytes fault → fault.kind ≡ Cut
 only_cut bytes stand fault few at waiting bad = elim (end_or_not (head (remaining stand.state))) [
   | inl done ↦ let s = spelled bytes stand few at waiting done in absurd (no_fault proof_schema bytes fault s.fields bad s.spells)
@@ -337,7 +337,7 @@ wrong_is_first bytes fault many few wrong place = first_of bytes fault few
 
 -- ---- the position of a feeder
 
-pub stand_of : (place : Place) (stand : Stand) (bytes : List ℕ) → place ≡ places.Reading stand → StandsAt place bytes → IsAt bytes stand [] × IsWaiting (head (remaining stand.state)) stand.came
+pub stand_of : (place : Place) (stand : PiecePosition) (bytes : List ℕ) → place ≡ places.Reading stand → StandsAt place bytes → IsAt bytes stand [] × IsWaiting (head (remaining stand.state)) stand.came
 stand_of place stand bytes is at = subst (λ (p : Place). StandsAt p bytes) is at
 
 -- a fault stays, whatever is fed

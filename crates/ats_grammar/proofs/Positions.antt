@@ -3,7 +3,7 @@ use Rattle.std.proofs.Common.{◌≡◌, ◌∙◌, ℕ, zero, suc, ◌+◌, ◌
 use Rattle.std.proofs.lemmas.List.{take_at}
 use Rattle.ats_grammar.specs.declared.fault.ShapeFault.{ShapeFault}
 use Rattle.ats_grammar.specs.declared.fault.ShapeKind.{ShapeKind}
-use Rattle.ats_grammar.specs.declared.next.Next.TheVariants as next
+use Rattle.ats_grammar.specs.declared.field_kinds.Next.TheVariants as next
 use Rattle.ats_grammar.specs.declared.reader.Reader.{Reader}
 use Rattle.ats_grammar.specs.Table.{Table, Number, Bytes, spelled, AreBytes, head, follow}
 use Rattle.ats_grammar.specs.Inner.Reading.{IsTaken, IsRefused}

@@ -6,8 +6,8 @@ use Rattle.ats_grammar.specs.declared.feeder.Place.TheVariants as place
 use Rattle.ats_grammar.specs.declared.feeder.Feeder.{Feeder}
 use Rattle.ats_grammar.specs.Front.{IsFirst}
 use Rattle.ats_grammar.specs.Grammar.{proof_schema}
-use Rattle.ats_grammar.specs.State.{remaining}
-use Rattle.ats_grammar.specs.Standing.{IsAt, IsWaiting}
+use Rattle.ats_grammar.specs.ReaderState.{remaining}
+use Rattle.ats_grammar.specs.PiecePosition.{IsAt, IsWaiting}
 use Rattle.ats_grammar.specs.Table.{head}
 
 abbrev pub StandsAt : Place → List ℕ → Type 0

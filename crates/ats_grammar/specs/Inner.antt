@@ -2,6 +2,6 @@
 
 pub mod Pending
 pub mod Reading
-pub mod Standing
-pub mod State
+pub mod PiecePosition
+pub mod ReaderState
 pub mod Table

@@ -2,10 +2,10 @@ pub mod Table
 pub mod Grammar
 pub mod Front
 pub mod Pending
-pub mod State
+pub mod ReaderState
 pub mod Reading
 pub mod Position
-pub mod Standing
-pub mod Inside
+pub mod PiecePosition
+pub mod FeederPosition
 pub mod Feeding
 pub mod Inner

@@ -1,7 +1,7 @@
 -- What a step of the reader takes, and what all steps so far have taken.
 use Rattle.std.specs.Prelude.{◌≡◌, ℕ, List}
-use Rattle.ats_grammar.specs.declared.next.Next.{Next}
-use Rattle.ats_grammar.specs.declared.next.Next.TheVariants as next
+use Rattle.ats_grammar.specs.declared.field_kinds.Next.{Next}
+use Rattle.ats_grammar.specs.declared.field_kinds.Next.TheVariants as next
 use Rattle.ats_grammar.specs.Table.{Table, Schema, number}
 use Rattle.ats_grammar.specs.Front.{IsFront}
 

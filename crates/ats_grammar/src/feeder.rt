@@ -1,14 +1,14 @@
 //! What a reader of pieces keeps between them.
 
 ghost use Rattle.std.specs.Prelude.{◌≤◌, ◌^◌};
-ghost use Rattle.ats_grammar.specs.Inside.{came_in};
+ghost use Rattle.ats_grammar.specs.FeederPosition.{came_in};
 
 use crate::fault::ShapeFault;
-use crate::stand::Stand;
+use crate::piece_position::PiecePosition;
 
 #[derive(Clone, Copy)]
 pub(crate) enum Place {
-    Reading(Stand),
+    Reading(PiecePosition),
     Refused(ShapeFault),
 }
 

@@ -6,16 +6,16 @@ ghost use Rattle.ats_grammar.specs.declared.fault.ShapeKind.TheVariants.{Cut, Lo
 ghost use Rattle.ats_grammar.specs.Front.{IsSpelling, IsBad};
 ghost use Rattle.ats_grammar.specs.Grammar.{proof_schema};
 ghost use Rattle.ats_grammar.specs.Table.{head};
-ghost use Rattle.ats_grammar.specs.State.{remaining};
-ghost use Rattle.ats_grammar.specs.Standing.{IsAt, IsWaiting};
-ghost use Rattle.ats_grammar.specs.Inner.Standing.{IsWrong};
+ghost use Rattle.ats_grammar.specs.ReaderState.{remaining};
+ghost use Rattle.ats_grammar.specs.PiecePosition.{IsAt, IsWaiting};
+ghost use Rattle.ats_grammar.specs.Inner.PiecePosition.{IsWrong};
 ghost use Rattle.ats_grammar.specs.Feeding.{StandsFor};
 
 use crate::fault::{ShapeFault, ShapeKind};
 use crate::feeder::{Feeder, Place};
-use crate::next::Next;
-use crate::stand::Stand;
-use crate::state::State;
+use crate::field_kinds::Next;
+use crate::piece_position::PiecePosition;
+use crate::reader_state::State;
 
 /// The most bytes that a proof may have.
 pub const MAX_PROOF: u64 = 1 << 26;
@@ -27,7 +27,7 @@ struct Wrong {
     left: u64,
 }
 
-impl Stand {
+impl PiecePosition {
     // Reads a piece to its end.
     fn read_on(&mut self, piece: &[u8]) -> Result<(), Wrong>
         requires few { length piece.now ≤ 2 ^ 26 }
@@ -72,7 +72,7 @@ impl Feeder {
         Ok(Feeder {
             length,
             fed: 0,
-            place: Place::Reading(Stand::before(State::start())),
+            place: Place::Reading(PiecePosition::before(State::start())),
         })
     }
 

@@ -1,16 +1,16 @@
 //! Reading the bytes of any schema, field by field.
 
 ghost use Rattle.std.specs.Prelude.{◌≡◌, ◌≢◌, ◌⊎◌, ℕ, ◌+◌, ◌≤◌, List, [], ◌∷◌, ◌++◌, length, IfOk, IfErr, OnOk, OnErr};
-ghost use Rattle.ats_grammar.specs.declared.next.Next.TheVariants as comes;
+ghost use Rattle.ats_grammar.specs.declared.field_kinds.Next.TheVariants as comes;
 ghost use Rattle.ats_grammar.specs.Table.{Table, Schema, End, Number, Bytes, spelled};
 ghost use Rattle.ats_grammar.specs.Inner.Table.{IsSized};
 ghost use Rattle.ats_grammar.specs.Grammar.{digests, header};
 ghost use Rattle.ats_grammar.specs.Front.{Spells, IsLong};
 ghost use Rattle.ats_grammar.specs.Inner.Reading.{IsTaken, IsRefused};
 
-use crate::coming::MAX_DOCUMENTS;
 use crate::fault::{ShapeFault, ShapeKind};
-use crate::next::Next;
+use crate::field_kinds::Next;
+use crate::next_field::MAX_DOCUMENTS;
 use crate::reading::{are_bytes, take};
 
 /// The bytes of a header.

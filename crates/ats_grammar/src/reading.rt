@@ -3,11 +3,11 @@
 ghost use Rattle.std.specs.Prelude.{◌≡◌, ◌⊎◌, [], length, IfOk, IfErr, IfSome, IfNone};
 ghost use Rattle.ats_grammar.specs.Table.{AreBytes, number};
 ghost use Rattle.ats_grammar.specs.Inner.Table.{IsSized};
-ghost use Rattle.ats_grammar.specs.declared.next.Next.TheVariants.{End};
+ghost use Rattle.ats_grammar.specs.declared.field_kinds.Next.TheVariants.{End};
 ghost use Rattle.ats_grammar.specs.Inner.Reading.{IsTaken, IsRefused};
 
 use crate::fault::ShapeKind;
-use crate::next::Next;
+use crate::field_kinds::Next;
 use byteorder::{BigEndian, ByteOrder};
 
 /// A slice holds bytes.

@@ -21,7 +21,7 @@ use Rattle.ats_tree.proofs.Public.{difference-collides}
 use Rattle.ats_consistency.specs.Headline.{HasGrown, IsPrefix}
 use Rattle.ats_consistency.specs.Rules.{AcceptsGrowth, digests_needed}
 use Rattle.ats_consistency.specs.Shape.{turns, need}
-use Rattle.ats_consistency.specs.Strings.{Beside, beside, header_pair, new_strings, old_strings, ranges, range_pairs, pairs, second_of, extract, part_of}
+use Rattle.ats_consistency.specs.Strings.{Beside, beside, header_pair, new_strings, old_strings, ranges, range_pairs, pairs, second_of, growth_collision, part_of}
 use Rattle.ats_consistency.specs.Value.{Growth, IsGrowth, IsInRange, AreInRange}
 use Rattle.ats_consistency.specs.declared.checking.Grown.{Grown}
 use Rattle.ats_consistency.proofs.Public.{growth-binds}
@@ -85,16 +85,16 @@ module _ (H : List ℕ → List ℕ) (older newer : Archive) (g : Growth) where
 
   module _ (sized : (m : List ℕ) → length (H m) ≡ 32) (old_are : AreTexts older.texts) (new_are : AreTexts newer.texts) (range : AreInRange g)
       (accepts : AcceptsGrowth H (root_of H older) (root_of H newer) g) where
-    pub extracts : first_difference second_of (pairs H older newer g) ≡ extract H older newer g
-    extracts =
+    pub collision_is_difference : first_difference second_of (pairs H older newer g) ≡ growth_collision H older newer g
+    collision_is_difference =
         sym (difference-collides H (HasGrown older newer g.old.documents g.new.documents) second_of (pairs H older newer g)
         (growth-binds H sized older newer g old_are new_are range accepts))
 
     -- without a collision nothing was withdrawn
-    pub grown_or_none : extract H older newer g ≡ None → HasGrown older newer g.old.documents g.new.documents
+    pub grown_or_none : growth_collision H older newer g ≡ None → HasGrown older newer g.old.documents g.new.documents
     grown_or_none none =
         let Grown : Type 0 = HasGrown older newer g.old.documents g.new.documents
-        in subst (λ (o : Option (Difference Beside)). MatchOption o Grown (λ c. H c.theirs ≡ H c.ours)) (extracts ∙ none)
+        in subst (λ (o : Option (Difference Beside)). MatchOption o Grown (λ c. H c.theirs ≡ H c.ours)) (collision_is_difference ∙ none)
         (growth-binds H sized older newer g old_are new_are range accepts)
 
 -- a header that does not differ is the archive's own
@@ -107,7 +107,7 @@ own-header H part archive f format h header o same also none found =
 -- without a collision the growth is found right
 pub found-grown : (H : List ℕ → List ℕ) → ((m : List ℕ) → length (H m) ≡ 32) → (older newer : Archive) (bytes : List ℕ) (g : Growth) (grown : Grown)
     → AreTexts older.texts → AreTexts newer.texts → IsGrowth bytes g → (old new : List ℕ) → old ≡ root_of H older → new ≡ root_of H newer → AcceptsGrowth H old new g
-    → (grown.old ≡ g.old.documents) × (grown.new ≡ g.new.documents) → AreInRange g → extract H older newer g ≡ None → IsFoundGrown H older newer bytes grown
+    → (grown.old ≡ g.old.documents) × (grown.new ≡ g.new.documents) → AreInRange g → growth_collision H older newer g ≡ None → IsFoundGrown H older newer bytes grown
 found-grown H sized older newer bytes g grown old_are new_are says old new is_old is_new accepts numbers range none =
     let under : AcceptsGrowth H (root_of H older) (root_of H newer) g =
     subst (λ (root : List ℕ). AcceptsGrowth H root (root_of H newer) g) is_old (subst (λ (root : List ℕ). AcceptsGrowth H old root g) is_new accepts)
@@ -203,8 +203,8 @@ module _ (H : List ℕ → List ℕ) (older newer : Archive) (g : Growth) where
         (flat_map (range_pairs H) (ranges (turns (many_old i) (many_new i)) (whole olds older.texts m own_old all_old i) (whole news newer.texts n own_new all_new i))))
 
     -- texts that are all kept differ in no range
-    pub kept-shared : 1 ≤ m → IsPrefix olds news → InShared None
-    kept-shared some kept =
+    pub prefix-shared : 1 ≤ m → IsPrefix olds news → InShared None
+    prefix-shared some kept =
         let is : IsPrefix older.texts newer.texts = subst (λ (xs : List (List ℕ)). IsPrefix xs newer.texts) own_old (subst (λ (ys : List (List ℕ)). IsPrefix olds ys) own_new kept)
         in let some' : 1 ≤ length older.texts = omega (arith, some, all_old, ap length own_old)
         in let old : length older.texts ≡ g.old.documents = sym (sym many_old ∙ all_old ∙ ap length own_old)

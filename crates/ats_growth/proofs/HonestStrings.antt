@@ -13,7 +13,7 @@ use Rattle.ats_tree.proofs.Public.{Collides, difference-collides}
 use Rattle.ats_consistency.specs.Headline.{IsPrefix}
 use Rattle.ats_consistency.specs.Pair.{Roots, roots}
 use Rattle.ats_consistency.specs.Shape.{turns}
-use Rattle.ats_consistency.specs.Strings.{Beside, beside, header_pair, new_strings, old_strings, ranges, range_pairs, second_of, pairs, extract}
+use Rattle.ats_consistency.specs.Strings.{Beside, beside, header_pair, new_strings, old_strings, ranges, range_pairs, second_of, pairs, growth_collision}
 use Rattle.ats_consistency.specs.Value.{Growth}
 use Rattle.ats_consistency.proofs.Public.{Shares, IsKnown}
 use Rattle.ats_growth.specs.Inner.Found.{texts_pairs}
@@ -107,7 +107,7 @@ module _ (H : List ℕ → List ℕ) (older newer : Archive) (is : IsPrefix olde
       ∙ past-header (header_string newer.format (header_parts H newer)) second (first_difference second_of (texts_pairs H older newer g)) refl refl
       ∙ texts-same
 
-  pub honest-none : extract H older newer (honest H older newer) ≡ None
+  pub honest-none : growth_collision H older newer (honest H older newer) ≡ None
   honest-none =
       let known : MatchOption (first_difference second_of (pairs H older newer (honest H older newer))) (Unit {0}) (Collides H) =
       subst (λ (o : Option (Difference Beside)). MatchOption o (Unit {0}) (Collides H)) (sym none-differs) tt

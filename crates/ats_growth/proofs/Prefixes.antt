@@ -26,9 +26,9 @@ not_prefix old new doc apart is = apart.apart (kept old new doc is apart.inside)
     kept (x ∷ xs) (y ∷ ys) (suc i) is less = let e : take (length xs) ys ≡ xs = cc in kept xs ys i e (omega arith)
 
 -- whether a document is kept, by comparing its two texts
-pub kept_is : (old new : List (List ℕ)) (doc : ℕ) (a b : List ℕ) (equal : Bool) → doc < length old → doc < length new → a ≡ get_or old doc a → b ≡ get_or new doc b
+pub same_text_is : (old new : List (List ℕ)) (doc : ℕ) (a b : List ℕ) (equal : Bool) → doc < length old → doc < length new → a ≡ get_or old doc a → b ≡ get_or new doc b
     → equal ≡ bytes_eq a b → equal ≡ true ↔ slice_get new doc ≡ slice_get old doc
-kept_is old new doc a b equal inside there is_a is_b test =
+same_text_is old new doc a b equal inside there is_a is_b test =
     let at_old : slice_get old doc ≡ Some a = slice_get_read old (length old) doc a refl inside is_a
     in let at_new : slice_get new doc ≡ Some b = slice_get_read new (length new) doc b refl there is_b
     in (

@@ -9,7 +9,7 @@ pub use Rattle.ats_growth.proofs.Prefixes.{not_prefix}
 -- for all archives with the two roots nothing was withdrawn, or each verdict on an accepted growth tells a collision
 pub use Rattle.ats_growth.proofs.Verdicts.{told}
 -- the first collision is two different strings with equal digests
-pub use Rattle.ats_growth.proofs.Verdicts.{extract-collides}
+pub use Rattle.ats_growth.proofs.Verdicts.{collision-collides}
 -- the honest growth of archives whose texts allow it has no collision with them
 pub use Rattle.ats_growth.proofs.HonestStrings.{honest-none}
 -- the only verdict on such a growth is that it is right

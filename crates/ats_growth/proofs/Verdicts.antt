@@ -9,11 +9,11 @@ use Rattle.ats_tree.proofs.Public.{AreColliding, found-collides, none_some}
 use Rattle.ats_consistency.specs.Grammar.{growth_schema}
 use Rattle.ats_consistency.specs.Headline.{IsPrefix}
 use Rattle.ats_consistency.specs.Rules.{AcceptsGrowth}
-use Rattle.ats_consistency.specs.Strings.{Beside, pairs, second_of, extract}
+use Rattle.ats_consistency.specs.Strings.{Beside, pairs, second_of, growth_collision}
 use Rattle.ats_consistency.specs.Value.{Growth, fields_of, IsGrowth}
 use Rattle.ats_consistency.specs.Bytes.{IsAcceptedGrowth}
 use Rattle.ats_consistency.specs.declared.checking.Grown.{Grown}
-use Rattle.ats_consistency.proofs.Public.{accepted_kept, growth_range, one_growth, grown_or_collides}
+use Rattle.ats_consistency.proofs.Public.{accepted_not_refused, growth_range, one_growth, grown_or_collides}
 use Rattle.ats_growth.specs.Honest.{honest}
 use Rattle.ats_growth.specs.Verdicts.{collision_of, IsGrowthVerdict, TellsGrowthCollision, IsGrownOrTold}
 use Rattle.ats_growth.specs.declared.verdict.GrowthVerdict.{GrowthVerdict}
@@ -21,17 +21,17 @@ use Rattle.ats_growth.specs.declared.verdict.GrowthVerdict.TheVariants.{BadShape
 use Rattle.ats_growth.proofs.Completeness.{honest_accepted}
 use Rattle.ats_growth.proofs.HonestStrings.{honest-none}
 
-pub extract-collides : (H : List ℕ → List ℕ) (older newer : Archive) (g : Growth) (c : Difference Beside) → extract H older newer g ≡ Some c → AreColliding H c
-extract-collides H older newer g c is = found-collides H second_of (pairs H older newer g) c is
+pub collision-collides : (H : List ℕ → List ℕ) (older newer : Archive) (g : Growth) (c : Difference Beside) → growth_collision H older newer g ≡ Some c → AreColliding H c
+collision-collides H older newer g c is = found-collides H second_of (pairs H older newer g) c is
 
 not_same : (a b : List ℕ) → a ≢ b → b ≢ a
 not_same a b other same = other (sym same)
 
 -- the two strings of the first collision, in the order of the pair
-pub told-strings : (H : List ℕ → List ℕ) (older newer : Archive) (g : Growth) (part : ℕ) (first second : List ℕ) → extract H older newer g ≡ Some (collision_of part first second)
+pub told-strings : (H : List ℕ → List ℕ) (older newer : Archive) (g : Growth) (part : ℕ) (first second : List ℕ) → growth_collision H older newer g ≡ Some (collision_of part first second)
     → (first ≢ second) × (H first ≡ H second)
 told-strings H older newer g part first second is =
-    let two = extract-collides H older newer g (collision_of part first second) is
+    let two = collision-collides H older newer g (collision_of part first second) is
     in (not_same second first two.0, sym two.1)
 
 -- ---- the verdict on an accepted growth
@@ -43,25 +43,25 @@ module _ (H : List ℕ → List ℕ) (older newer : Archive) (bytes : List ℕ) 
   no_refusal : (other : Growth) → IsGrowth bytes other → AcceptsGrowth H (root_of H older) (root_of H newer) other
   no_refusal other says = subst (AcceptsGrowth H (root_of H older) (root_of H newer)) (one_growth bytes g other accepted.says says) accepted.accepts
 
-  tells : IsSome (extract H older newer g) → (verdict : GrowthVerdict) → IsGrowthVerdict H older newer bytes verdict → TellsGrowthCollision H verdict
+  tells : IsSome (growth_collision H older newer g) → (verdict : GrowthVerdict) → IsGrowthVerdict H older newer bytes verdict → TellsGrowthCollision H verdict
   tells some (BadShape fault) found = no_fault growth_schema bytes fault (fields_of g) found accepted.says
   tells some (Refused refusal) found =
-      accepted_kept H (root_of H older) (root_of H newer) found.growth refusal (no_refusal found.growth found.says) found.refused
+      accepted_not_refused H (root_of H older) (root_of H newer) found.growth refusal (no_refusal found.growth found.says) found.refused
   tells some (Right grown) found =
-      none_some (extract H older newer found.growth) found.none
-      (subst (λ (other : Growth). IsSome (extract H older newer other)) (one_growth bytes g found.growth accepted.says found.accepted.says) some)
+      none_some (growth_collision H older newer found.growth) found.none
+      (subst (λ (other : Growth). IsSome (growth_collision H older newer other)) (one_growth bytes g found.growth accepted.says found.accepted.says) some)
   tells some (Collision part first second) found = told-strings H older newer found.growth part first second found.found
 
   -- if there is no collision, the growth is found right
-  only_right : extract H older newer g ≡ None → (verdict : GrowthVerdict) → IsGrowthVerdict H older newer bytes verdict
+  only_right : growth_collision H older newer g ≡ None → (verdict : GrowthVerdict) → IsGrowthVerdict H older newer bytes verdict
       → verdict ≡ Right (record { old = length older.texts; new = length newer.texts })
   only_right none (BadShape fault) found = absurd (no_fault growth_schema bytes fault (fields_of g) found accepted.says)
   only_right none (Refused refusal) found =
-      absurd (accepted_kept H (root_of H older) (root_of H newer) found.growth refusal (no_refusal found.growth found.says) found.refused)
+      absurd (accepted_not_refused H (root_of H older) (root_of H newer) found.growth refusal (no_refusal found.growth found.says) found.refused)
   only_right none (Right grown) found = ap Right (same_numbers grown (length older.texts) (length newer.texts) found.grows.old found.grows.new)
   only_right none (Collision part first second) found =
-      let there : extract H older newer found.growth ≡ None =
-      subst (λ (other : Growth). extract H older newer other ≡ None) (one_growth bytes g found.growth accepted.says found.accepted.says) none
+      let there : growth_collision H older newer found.growth ≡ None =
+      subst (λ (other : Growth). growth_collision H older newer other ≡ None) (one_growth bytes g found.growth accepted.says found.accepted.says) none
       in let is = found.found
       in absurd (cc)
 

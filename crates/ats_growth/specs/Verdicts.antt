@@ -8,7 +8,7 @@ use Rattle.ats_tree.specs.Differences.{Difference}
 use Rattle.ats_consistency.specs.Bytes.{IsAcceptedGrowth, IsRefusedGrowth}
 use Rattle.ats_consistency.specs.Grammar.{growth_schema}
 use Rattle.ats_consistency.specs.Headline.{HasGrown}
-use Rattle.ats_consistency.specs.Strings.{Beside, extract}
+use Rattle.ats_consistency.specs.Strings.{Beside, growth_collision}
 use Rattle.ats_consistency.specs.Value.{Growth}
 use Rattle.ats_consistency.specs.declared.checking.Grown.{Grown}
 use Rattle.ats_growth.specs.declared.verdict.GrowthVerdict.{GrowthVerdict}
@@ -24,22 +24,22 @@ collision_of part first second =
 pub record IsFoundGrown (H : List ℕ → List ℕ) (older newer : Archive) (bytes : List ℕ) (grown : Grown) : Type 0 where
   pub growth : Growth
   pub accepted : IsAcceptedGrowth H (root_of H older) (root_of H newer) bytes growth
-  pub none : extract H older newer growth ≡ None
+  pub none : growth_collision H older newer growth ≡ None
   pub grows : HasGrown older newer grown.old grown.new
 
 -- the bytes are accepted under the roots of both archives, and this is their first collision with them
-pub record IsFoundCollision (H : List ℕ → List ℕ) (older newer : Archive) (bytes : List ℕ) (part : ℕ)
+pub record IsFoundGrowthCollision (H : List ℕ → List ℕ) (older newer : Archive) (bytes : List ℕ) (part : ℕ)
     (first second : List ℕ) : Type 0 where
   pub growth : Growth
   pub accepted : IsAcceptedGrowth H (root_of H older) (root_of H newer) bytes growth
-  pub found : extract H older newer growth ≡ Some (collision_of part first second)
+  pub found : growth_collision H older newer growth ≡ Some (collision_of part first second)
 
 -- the verdict on the bytes against the two archives
 abbrev pub IsGrowthVerdict : (List ℕ → List ℕ) → Archive → Archive → List ℕ → GrowthVerdict → Type 0
 IsGrowthVerdict H older newer bytes (BadShape fault) = IsBad growth_schema bytes fault
 IsGrowthVerdict H older newer bytes (Refused refusal) = IsRefusedGrowth H (root_of H older) (root_of H newer) bytes refusal
 IsGrowthVerdict H older newer bytes (Right grown) = IsFoundGrown H older newer bytes grown
-IsGrowthVerdict H older newer bytes (Collision part first second) = IsFoundCollision H older newer bytes part first second
+IsGrowthVerdict H older newer bytes (Collision part first second) = IsFoundGrowthCollision H older newer bytes part first second
 
 -- the verdict contains two different strings with equal digests
 abbrev pub TellsGrowthCollision : (List ℕ → List ℕ) → GrowthVerdict → Type 0

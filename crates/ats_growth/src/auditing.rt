@@ -5,7 +5,7 @@ ghost use Rattle.ats_commit.specs.Root.{root_of};
 ghost use Rattle.ats_commit.specs.Inner.Root.{HasOwnHeader};
 ghost use Rattle.ats_tree.specs.Differences.{first_difference};
 ghost use Rattle.ats_consistency.specs.Rules.{AcceptsGrowth};
-ghost use Rattle.ats_consistency.specs.Strings.{second_of, extract};
+ghost use Rattle.ats_consistency.specs.Strings.{second_of, growth_collision};
 ghost use Rattle.ats_growth.specs.Inner.Found.{IsHeaderCollision, difference_in, difference_of, new_pairs, old_pairs, shared_pairs, texts_pairs};
 ghost use Rattle.ats_growth.specs.Inner.Unlike.{strings_of, first_unlike};
 ghost use Rattle.ats_growth.specs.Verdicts.{IsGrowthVerdict, IsWellTold};
@@ -189,7 +189,7 @@ fn first_collision<'a, H: Hash32>(
     proof: &GrowthView<'_>,
 ) -> Result<Option<Collided>, OutOfMemory>
     requires { AcceptsGrowth H.hash (root_of H.hash old.now) (root_of H.hash new.now) proof.now }
-    ensures { IfOk result (λ found. option_map difference_of found ≡ extract H.hash old.now new.now proof.now) }
+    ensures { IfOk result (λ found. option_map difference_of found ≡ growth_collision H.hash old.now new.now proof.now) }
 {
     // Indexes have texts within the limits.
     let (_older, _newer) = (old.collection(), new.collection());

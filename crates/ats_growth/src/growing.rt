@@ -40,7 +40,7 @@ impl From<OutOfMemory> for GrowFault {
 }
 
 // Whether the new texts have this old document with the same text.
-fn is_kept(old: &Collection, new: &Collection, doc: u32) -> bool
+fn has_same_text(old: &Collection, new: &Collection, doc: u32) -> bool
     requires { doc < length old.now }
     ensures { IsTrue result ↔ slice_get new.now doc ≡ slice_get old.now doc }
 {
@@ -56,7 +56,7 @@ pub(crate) fn first_apart(old: &Collection, new: &Collection) -> Option<u32>
     ensures none { IfNone result (IsPrefix old.now new.now) }
 {
     for doc in 0..old.documents() {
-        if !is_kept(old, new, doc) {
+        if !has_same_text(old, new, doc) {
             return Some(doc);
         }
     }

@@ -10,7 +10,7 @@ ghost use Rattle.ats_consistency.specs.Bytes.{IsAcceptedGrowth};
 ghost use Rattle.ats_consistency.specs.Headline.{IsPrefix};
 ghost use Rattle.ats_consistency.specs.Rules.{AcceptsGrowth};
 ghost use Rattle.ats_consistency.specs.Shape.{turns};
-ghost use Rattle.ats_consistency.specs.Strings.{extract};
+ghost use Rattle.ats_consistency.specs.Strings.{growth_collision};
 ghost use Rattle.ats_consistency.specs.Value.{Growth, IsGrowth};
 ghost use Rattle.ats_growth.specs.Honest.{shown, honest, IsFirstApart};
 ghost use Rattle.ats_growth.specs.Verdicts.{IsGrowthVerdict, IsGrownOrTold};
@@ -46,7 +46,7 @@ pub fn honest_growths_are_accepted<H: HashKind>()
     ensures accepted { (older newer : Archive) → AreTexts older.texts → IsPrefix older.texts newer.texts
         → AcceptsGrowth H.hash (root_of H.hash older) (root_of H.hash newer) (honest H.hash older newer) }
     ensures none { (older newer : Archive) → AreTexts older.texts → IsPrefix older.texts newer.texts
-        → extract H.hash older newer (honest H.hash older newer) ≡ None }
+        → growth_collision H.hash older newer (honest H.hash older newer) ≡ None }
     ensures right { (older newer : Archive) (bytes : List ℕ) (verdict : GrowthVerdict)
         → AreTexts older.texts → IsPrefix older.texts newer.texts → IsGrowth bytes (honest H.hash older newer)
         → IsGrowthVerdict H.hash older newer bytes verdict

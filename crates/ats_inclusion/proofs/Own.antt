@@ -16,7 +16,7 @@ use Rattle.ats_tree.specs.Shown.{Shown}
 use Rattle.ats_tree.specs.Strings.{node_string, node_strings, IsBoundTo}
 use Rattle.ats_tree.proofs.Public.{bound_to, binds-weaker, Collides, difference-collides, known-moved, numbers-lead}
 use Rattle.ats_inclusion.specs.Accepts.{shown_text, AcceptsText}
-use Rattle.ats_inclusion.specs.Strings.{TextPlace, in_texts, own_text_string, text_strings, text_extract, IsOwnText, IsOwnOrCollides}
+use Rattle.ats_inclusion.specs.Strings.{TextPlace, in_texts, own_text_string, text_strings, text_collision, IsOwnText, IsOwnOrCollides}
 use Rattle.ats_inclusion.specs.Value.{TextProof, IsTextInRange}
 use Rattle.ats_refusal.specs.declared.text.TextRefusal.{TextRefusal}
 
@@ -61,10 +61,10 @@ text-bound H sized archive doc proof are range accepts =
     ]
 
 -- the first difference is then the first collision
-pub text-extracts : (H : List ℕ → List ℕ) → ((m : List ℕ) → length (H m) ≡ 32) → (archive : Archive) (doc : ℕ) (proof : TextProof) → AreTexts archive.texts → IsTextInRange proof
+pub text-collision-is-difference : (H : List ℕ → List ℕ) → ((m : List ℕ) → length (H m) ≡ 32) → (archive : Archive) (doc : ℕ) (proof : TextProof) → AreTexts archive.texts → IsTextInRange proof
     → AcceptsText H (root_of H archive) doc proof
-    → text_extract H archive doc proof ≡ first_difference (own_text_string H archive) (text_strings H doc proof)
-text-extracts H sized archive doc proof are range accepts =
+    → text_collision H archive doc proof ≡ first_difference (own_text_string H archive) (text_strings H doc proof)
+text-collision-is-difference H sized archive doc proof are range accepts =
     difference-collides H (IsOwnText archive doc proof) (own_text_string H archive) (text_strings H doc proof) (text-bound H sized archive doc proof are range accepts)
 
 -- an option that is known to be equal to one of which something is known
@@ -76,8 +76,8 @@ pub own_or_collides : (H : List ℕ → List ℕ) → ((m : List ℕ) → length
     → AcceptsText H root doc proof → IsOwnOrCollides H root doc proof
 own_or_collides H sized root doc proof range accepts archive are is =
     let here : AcceptsText H (root_of H archive) doc proof = subst (λ (r : List ℕ). AcceptsText H r doc proof) (sym is) accepts in
-    found_or H (IsOwnText archive doc proof) (first_difference (own_text_string H archive) (text_strings H doc proof)) (text_extract H archive doc proof)
-    (text-extracts H sized archive doc proof are range here) (text-bound H sized archive doc proof are range here)
+    found_or H (IsOwnText archive doc proof) (first_difference (own_text_string H archive) (text_strings H doc proof)) (text_collision H archive doc proof)
+    (text-collision-is-difference H sized archive doc proof are range here) (text-bound H sized archive doc proof are range here)
 
 -- the same of a check
 pub own_if_ok : (H : List ℕ → List ℕ) → ((m : List ℕ) → length (H m) ≡ 32) → (root : List ℕ) (doc : ℕ) (proof : TextProof) → IsTextInRange proof

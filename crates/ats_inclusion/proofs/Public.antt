@@ -15,4 +15,4 @@ pub use Rattle.ats_inclusion.proofs.Own.{own_or_collides}
 -- the strings of the texts tree that the check hashes
 pub use Rattle.ats_inclusion.proofs.Own.{tree_strings_of}
 -- the first string of an accepted text that differs from an archive's own is the first collision
-pub use Rattle.ats_inclusion.proofs.Own.{text-extracts}
+pub use Rattle.ats_inclusion.proofs.Own.{text-collision-is-difference}

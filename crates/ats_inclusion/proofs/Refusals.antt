@@ -2,7 +2,7 @@
 use Rattle.std.proofs.Common.{◌≡◌, ◌∙◌, ℕ, List, length, true, Result, Ok, Err, refl, sym, ap, arith}
 use Rattle.std.specs.Result.{is_ok, IfErr}
 use Rattle.ats_base.specs.Rules.{Group}
-use Rattle.ats_base.proofs.Public.{IsExact, AreExact, not_kept, one_first}
+use Rattle.ats_base.proofs.Public.{IsExact, AreExact, not_all_hold, one_first}
 use Rattle.ats_inclusion.specs.Accepts.{IsRooted, IsRootFault, IsInside, IsDocFault, IsFit, IsMisfit, IsTextRooted, IsTextRootFault, text_rules, AcceptsText, IsFirstTextRefusal}
 use Rattle.ats_inclusion.specs.Value.{TextProof}
 use Rattle.ats_refusal.specs.declared.text.TextRefusal.{TextRefusal}
@@ -44,7 +44,7 @@ one_refusal H root doc proof a b is also = one_first (text_rules H root doc proo
 -- a text that is accepted is not refused
 pub not_refused : (H : List ℕ → List ℕ) (root : List ℕ) (doc : ℕ) (proof : TextProof) (refusal : TextRefusal)
     → AcceptsText H root doc proof → IsFirstTextRefusal H root doc proof refusal → ⊥
-not_refused H root doc proof refusal accepts is = not_kept (text_rules H root doc proof) refusal (exact H root doc proof) is.first accepts.kept
+not_refused H root doc proof refusal accepts is = not_all_hold (text_rules H root doc proof) refusal (exact H root doc proof) is.first accepts.kept
 
 pub accepted : (H : List ℕ → List ℕ) (root : List ℕ) (doc : ℕ) (proof : TextProof) (result : Result (Unit {0}) TextRefusal)
     → IfErr result (λ refusal. IsFirstTextRefusal H root doc proof refusal) → AcceptsText H root doc proof → is_ok result ≡ true

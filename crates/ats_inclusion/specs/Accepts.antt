@@ -1,6 +1,6 @@
 -- When a text is accepted under a root as a document's, and by which rule it is refused otherwise.
 use Rattle.std.specs.Prelude.{◌≡◌, ◌≢◌, ◌<◌, ◌≤◌, ℕ, List, [], ◌∷◌, length, Option, Some}
-use Rattle.ats_base.specs.Rules.{Group, AreKept, IsFirstFault}
+use Rattle.ats_base.specs.Rules.{Group, AllHold, IsFirstFault}
 use Rattle.ats_commit.specs.Root.{header_root}
 use Rattle.ats_tree.specs.Rebuild.{need, rebuilt, tree_of_places}
 use Rattle.ats_tree.specs.Shown.{Shown}
@@ -71,7 +71,7 @@ text_rules H root doc proof =
 
 -- all rules hold
 pub record AcceptsText (H : List ℕ → List ℕ) (root : List ℕ) (doc : ℕ) (proof : TextProof) : Type 0 where
-  pub kept : AreKept (text_rules H root doc proof)
+  pub kept : AllHold (text_rules H root doc proof)
 
 -- the first rule that does not hold
 pub record IsFirstTextRefusal (H : List ℕ → List ℕ) (root : List ℕ) (doc : ℕ) (proof : TextProof) (refusal : TextRefusal) : Type 0 where

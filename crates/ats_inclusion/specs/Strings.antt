@@ -37,8 +37,8 @@ own_text_string H archive place = elim place.header [
 ]
 
 -- the first of the strings that differs from the archive's own at its place and has an equal digest
-abbrev pub text_extract : (List ℕ → List ℕ) → Archive → ℕ → TextProof → Option (Difference TextPlace)
-text_extract H archive doc proof = first_collision H (own_text_string H archive) (text_strings H doc proof)
+abbrev pub text_collision : (List ℕ → List ℕ) → Archive → ℕ → TextProof → Option (Difference TextPlace)
+text_collision H archive doc proof = first_collision H (own_text_string H archive) (text_strings H doc proof)
 
 -- the text is the archive's text of this document
 abbrev pub IsOwnText : Archive → ℕ → TextProof → Type 0
@@ -48,4 +48,4 @@ IsOwnText archive doc proof = slice_get archive.texts doc ≡ Some proof.text
 -- check and those of the archive contain two different ones with equal digests.
 abbrev pub IsOwnOrCollides : (List ℕ → List ℕ) → List ℕ → ℕ → TextProof → Type 0
 IsOwnOrCollides H root doc proof = (archive : Archive) → AreTexts archive.texts → root_of H archive ≡ root
-    → IsOwnText archive doc proof ⊎ IsSome (text_extract H archive doc proof)
+    → IsOwnText archive doc proof ⊎ IsSome (text_collision H archive doc proof)

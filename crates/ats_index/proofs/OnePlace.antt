@@ -14,7 +14,7 @@ use Rattle.ats_lists.specs.declared.format.Format.{Format}
 use Rattle.ats_index.specs.Parts.{archive_in}
 use Rattle.ats_lists.specs.FormatNumber.{number_of_format}
 use Rattle.ats_index.specs.Spelling.{IsSpelling, front_bytes, text_bytes, index_bytes}
-use Rattle.ats_index.specs.FirstPart.{Field, Magic, Version, Documents, TextLength, TextBytes, IsRoom, AreFirst, IsReached, IsGood, front_of}
+use Rattle.ats_index.specs.FirstPart.{Field, Magic, Version, Documents, TextLength, TextBytes, HasSpaceFor, AreFirst, IsReached, IsGood, front_of}
 use Rattle.ats_index.specs.LoadFaults.{BeginWith, IsLoadFault}
 use Rattle.ats_index.specs.declared.load.LoadFault.TheVariants.{BadIndex}
 use Rattle.ats_index.proofs.Reading.{front_number, front_rest}
@@ -85,7 +85,7 @@ module _ (texts others : List (List ℕ)) (behind : List ℕ) (good : AreGood te
   more_short : length longer.text ≤ 2 ^ 20
   more_short = middle (λ (text : List ℕ). length text ≤ 2 ^ 20) others longer.text longer.more (subst AllShort longer.are good.short)
 
-  more_room : IsRoom others (length longer.text)
+  more_room : HasSpaceFor others (length longer.text)
   more_room =
       let Length : List ℕ → ℕ = λ (text : List ℕ). length text in
       record {
@@ -119,7 +119,7 @@ length_stands : (texts others : List (List ℕ)) (f : Format) (n : ℕ) (b : Lis
 length_stands texts others f n b good longer bad =
     bad (to_be_bytes w32 (length longer.text)) (longer.text ++ longer.rest) (length longer.text, more_room texts others b good longer, refl) (more_next texts others b good longer)
 
-bytes_stand : (texts others : List (List ℕ)) (f : Format) (n size : ℕ) (b : List ℕ) → AreGood texts → IsRoom others size → Longer texts others (to_be_bytes w32 size ++ b)
+bytes_stand : (texts others : List (List ℕ)) (f : Format) (n size : ℕ) (b : List ℕ) → AreGood texts → HasSpaceFor others size → Longer texts others (to_be_bytes w32 size ++ b)
     → NoneGood (TextBytes f n others size) b → ⊥
 bytes_stand texts others f n size b good room longer bad =
     let tail : List ℕ = to_be_bytes w32 size ++ b in
@@ -193,14 +193,14 @@ module _ (f g : Format) (n m : ℕ) (texts others : List (List ℕ)) (first : Ar
   of_lengths a b bad bad' (same, inr (inr longer)) = absurd (length_stands others texts f n a good' longer bad)
 
   -- either the length or the bytes after it are good
-  mixed : (size : ℕ) (a b : List ℕ) → IsRoom others size → NoneGood (TextLength f n texts) a → NoneGood (TextBytes g m others size) b
+  mixed : (size : ℕ) (a b : List ℕ) → HasSpaceFor others size → NoneGood (TextLength f n texts) a → NoneGood (TextBytes g m others size) b
       → (n ≡ m) × Meet texts others a (to_be_bytes w32 size ++ b) → ⊥
   mixed size a b room bad bad' (same, inl is) =
-      bad (to_be_bytes w32 size) b (size, subst (λ (some : List (List ℕ)). IsRoom some size) (sym is.0) room, refl) is.1
+      bad (to_be_bytes w32 size) b (size, subst (λ (some : List (List ℕ)). HasSpaceFor some size) (sym is.0) room, refl) is.1
   mixed size a b room bad bad' (same, inr (inl longer)) = bytes_stand texts others g m size b good room longer bad'
   mixed size a b room bad bad' (same, inr (inr longer)) = length_stands others texts f n a good' longer bad
 
-  of_bytes : (size size' : ℕ) (a b : List ℕ) → IsRoom texts size → IsRoom others size' → NoneGood (TextBytes f n texts size) a → NoneGood (TextBytes g m others size') b
+  of_bytes : (size size' : ℕ) (a b : List ℕ) → HasSpaceFor texts size → HasSpaceFor others size' → NoneGood (TextBytes f n texts size) a → NoneGood (TextBytes g m others size') b
       → (n ≡ m) × Meet texts others (to_be_bytes w32 size ++ a) (to_be_bytes w32 size' ++ b)
       → length (up_to f n texts ++ to_be_bytes w32 size) ≡ length (up_to g m others ++ to_be_bytes w32 size')
   of_bytes size size' a b room room' bad bad' (same, inl is) =

@@ -8,7 +8,7 @@ use Rattle.std.proofs.lemmas.List.{flat_map_more}
 use Rattle.ats_lists.specs.declared.format.Format.{Format}
 use Rattle.ats_lists.specs.FormatNumber.{number_of_format}
 use Rattle.ats_index.specs.Spelling.{front_bytes, text_bytes}
-use Rattle.ats_index.specs.FirstPart.{TextLength, TextBytes, IsRoom, AreFirst, IsFirstBad}
+use Rattle.ats_index.specs.FirstPart.{TextLength, TextBytes, HasSpaceFor, AreFirst, IsFirstBad}
 
 -- the magic, the version and the number of texts
 pub front_stands : (bytes versioned counted rest : List ℕ) (format : Format) (documents : ℕ) → bytes ≡ codes "ATSI" ++ versioned → versioned ≡ number_of_format format ∷ counted
@@ -23,7 +23,7 @@ module _ (bytes : List ℕ) (format : Format) (documents : ℕ) (texts : List (L
   place = sym (ap (λ (xs : List ℕ). length xs) is ∙ length-append (front_bytes format documents ++ flat_map text_bytes texts) rest)
 
   -- no good length follows
-  pub length_bad : AreFirst documents texts → ((size : ℕ) (more : List ℕ) → IsRoom texts size → rest ≢ to_be_bytes w32 size ++ more)
+  pub length_bad : AreFirst documents texts → ((size : ℕ) (more : List ℕ) → HasSpaceFor texts size → rest ≢ to_be_bytes w32 size ++ more)
       → IsFirstBad bytes (length bytes - length rest)
   length_bad first none = record {
     field = TextLength format documents texts;
@@ -35,7 +35,7 @@ module _ (bytes : List ℕ) (format : Format) (documents : ℕ) (texts : List (L
   }
 
   -- no good text of this length follows
-  pub bytes_bad : (size : ℕ) → AreFirst documents texts → IsRoom texts size → rest ≡ to_be_bytes w32 size ++ drop 4 rest
+  pub bytes_bad : (size : ℕ) → AreFirst documents texts → HasSpaceFor texts size → rest ≡ to_be_bytes w32 size ++ drop 4 rest
       → ((text more : List ℕ) → length text ≡ size → IsUtf8 text → drop 4 rest ≢ text ++ more)
       → IsFirstBad bytes (length bytes - length rest + 4)
   bytes_bad size first room next none = record {

@@ -21,7 +21,7 @@ use Rattle.ats_lists.specs.declared.format.Format.TheVariants.{One, Two}
 use Rattle.ats_index.specs.Parts.{archive_in}
 use Rattle.ats_lists.specs.FormatNumber.{number_of_format}
 use Rattle.ats_index.specs.Spelling.{IsSpelling, front_bytes, text_bytes, index_bytes}
-use Rattle.ats_index.specs.FirstPart.{Magic, Version, Documents, IsGood, IsRoom, AreFirst, IsFirstBad}
+use Rattle.ats_index.specs.FirstPart.{Magic, Version, Documents, IsGood, HasSpaceFor, AreFirst, IsFirstBad}
 use Rattle.ats_index.specs.LoadFaults.{BeginWith, IsLoadFault}
 use Rattle.ats_index.specs.declared.load.LoadFault.TheVariants.{BadIndex}
 use Rattle.ats_index.proofs.ReadingTexts.{front_stands, length_bad, bytes_bad, text_read}
@@ -179,7 +179,7 @@ module _ (H : List ℕ → List ℕ) (bytes : List ℕ) (format : Format) (k doc
   first : AreFirst documents texts
   first = record { some = so_far.some; few = so_far.few; more = omega (arith, count); utf8 = so_far.utf8; short = so_far.short; small = so_far.small }
 
-  read_more : (size : ℕ) → IsRoom texts size → rest ≡ to_be_bytes w32 size ++ drop 4 rest → (found : TextStands (drop 4 rest) size)
+  read_more : (size : ℕ) → HasSpaceFor texts size → rest ≡ to_be_bytes w32 size ++ drop 4 rest → (found : TextStands (drop 4 rest) size)
       → AreRead bytes format documents (texts ++ found.text ∷ []) found.behind
   read_more size room number found =
       let Length : List ℕ → ℕ = λ (t : List ℕ). length t in
@@ -194,7 +194,7 @@ module _ (H : List ℕ → List ℕ) (bytes : List ℕ) (format : Format) (k doc
         same = text_read bytes format documents texts rest so_far.same size found.text found.behind found.long number found.same;
       }
 
-  text_next : (size : ℕ) → IsRoom texts size → rest ≡ to_be_bytes w32 size ++ drop 4 rest → TextStands (drop 4 rest) size ⊎ NoText (drop 4 rest) size → IsIndexOrFault H bytes
+  text_next : (size : ℕ) → HasSpaceFor texts size → rest ≡ to_be_bytes w32 size ++ drop 4 rest → TextStands (drop 4 rest) size ⊎ NoText (drop 4 rest) size → IsIndexOrFault H bytes
   text_next size room number (inl found) =
       next (texts ++ found.text ∷ []) found.behind (omega (arith, count, length-append texts (found.text ∷ []))) (read_more size room number found)
   text_next size room number (inr none) = bad_at H bytes (length bytes - length rest + 4) (bytes_bad bytes format documents texts rest so_far.same size first room number none)
@@ -202,11 +202,11 @@ module _ (H : List ℕ → List ℕ) (bytes : List ℕ) (format : Format) (k doc
   most : ℕ
   most = min (2 ^ 20) (2 ^ 24 - sum_by length texts)
 
-  most_room : (size : ℕ) → size ≤ most → IsRoom texts size
+  most_room : (size : ℕ) → size ≤ most → HasSpaceFor texts size
   unfolding most
   most_room size within = record { short = omega (arith, within); small = omega (arith, within, so_far.small) }
 
-  room_most : (size : ℕ) → IsRoom texts size → size ≤ most
+  room_most : (size : ℕ) → HasSpaceFor texts size → size ≤ most
   unfolding most
   room_most size room = omega (arith, room.short, room.small)
 

@@ -26,7 +26,7 @@ front_of (TextLength format documents texts) = front_bytes format documents ++ f
 front_of (TextBytes format documents texts size) = front_bytes format documents ++ flat_map text_bytes texts ++ to_be_bytes w32 size
 
 -- after these texts, one more of this length is within the limits
-pub record IsRoom (texts : List (List ℕ)) (size : ℕ) : Type 0 where
+pub record HasSpaceFor (texts : List (List ℕ)) (size : ℕ) : Type 0 where
   pub short : size ≤ 2 ^ 20
   pub small : sum_by length texts + size ≤ 2 ^ 24
 
@@ -45,14 +45,14 @@ IsReached Magic = Unit {0}
 IsReached Version = Unit {0}
 IsReached (Documents format) = Unit {0}
 IsReached (TextLength format documents texts) = AreFirst documents texts
-IsReached (TextBytes format documents texts size) = AreFirst documents texts × IsRoom texts size
+IsReached (TextBytes format documents texts size) = AreFirst documents texts × HasSpaceFor texts size
 
 -- these bytes are the field, and good
 abbrev pub IsGood : Field → List ℕ → Type 0
 IsGood Magic bytes = bytes ≡ codes "ATSI"
 IsGood Version bytes = (format : Format) × (bytes ≡ number_of_format format ∷ [])
 IsGood (Documents format) bytes = (documents : ℕ) × (1 ≤ documents) × (documents ≤ 65536) × (bytes ≡ to_be_bytes w32 documents)
-IsGood (TextLength format documents texts) bytes = (size : ℕ) × IsRoom texts size × (bytes ≡ to_be_bytes w32 size)
+IsGood (TextLength format documents texts) bytes = (size : ℕ) × HasSpaceFor texts size × (bytes ≡ to_be_bytes w32 size)
 IsGood (TextBytes format documents texts size) bytes = (length bytes ≡ size) × IsUtf8 bytes
 
 -- at this place begins the first bad field: the fields before it are good, and no good one is there, whether its bytes

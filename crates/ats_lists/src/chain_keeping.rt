@@ -14,10 +14,10 @@ ghost use Rattle.ats_lists.specs.Inner.KeptChain.{digests_in, chain_in, IsChainR
 ghost use Rattle.ats_lists.specs.Leaf.{leaf_bytes};
 
 use crate::chain_rebuilding::BLOCK;
-use ats_postings::Entry;
 use crate::leaves::ListLeaves;
 use crate::memory::OutOfMemory;
 use ats_hash::{Hash32, HashKind, Steps};
+use ats_postings::Entry;
 use ats_tree::{
     Digests, HashedString, Leaves, ShownTree, begins_with_elided, elide_kept, keep_part,
     string_of_part,

@@ -10,12 +10,12 @@ ghost use Rattle.ats_postings.specs.Lists.{by_impact, lists_of, AreLists};
 ghost use Rattle.ats_postings.specs.Inner.Lists.{AreGathered};
 ghost use Rattle.ats_lists.specs.Inner.Gathered.{entries_under, pairs_of, renumbered, term_of, AreNewNumbers, HasRun, IsLogOf};
 
-use ats_postings::Entry;
 use crate::key::Key;
 use crate::memory::OutOfMemory;
 use crate::numbering::{Numbering, Places};
 use crate::term_list::TermList;
 use ats_impact::{Collection, impact};
+use ats_postings::Entry;
 use ats_terms::TermCounts;
 use std::alloc::Global;
 use std::marker::Model;
@@ -68,9 +68,9 @@ fn placed(gathered: Gathered) -> Result<(Vec<Key>, Vec<Logged>), OutOfMemory>
 }
 
 // Each term with room for the entries under its number.
-fn rooms(alloc: Global, terms: Vec<Key>, log: &[Logged]) -> Result<Vec<TermList>, OutOfMemory>
+fn empty_lists(alloc: Global, terms: Vec<Key>, log: &[Logged]) -> Result<Vec<TermList>, OutOfMemory>
     requires { All (λ logged. logged.number < length terms.items) log.now }
-    ensures { IfOk result (λ rooms. rooms.items ≡ map (λ term. (term, [])) terms.items) }
+    ensures { IfOk result (λ empty_lists. empty_lists.items ≡ map (λ term. (term, [])) terms.items) }
 {
     let mut counts: Vec<usize> = Vec::new(alloc);
     counts.resize(terms.len(), 0)?;
@@ -78,12 +78,12 @@ fn rooms(alloc: Global, terms: Vec<Key>, log: &[Logged]) -> Result<Vec<TermList>
         let at = logged.number as usize;
         counts[at] = counts[at].saturating_add(1);
     }
-    let mut rooms = Vec::with_capacity(alloc, terms.len())?;
+    let mut empty_lists = Vec::with_capacity(alloc, terms.len())?;
     for term in terms {
-        let room = counts[rooms.len()];
-        rooms.push(TermList::with_room(alloc, term.into_term(), room)?)?;
+        let room = counts[empty_lists.len()];
+        empty_lists.push(TermList::with_room(alloc, term.into_term(), room)?)?;
     }
-    Ok(rooms)
+    Ok(empty_lists)
 }
 
 // Each term with the entries under its number, in the order in which they were added.
@@ -93,7 +93,7 @@ fn parted(alloc: Global, terms: Vec<Key>, log: &[Logged]) -> Result<Vec<TermList
     ensures entries { IfOk result (λ lists. (n : ℕ) → n < length terms.items
         → slice_index_or lists.items n ([], []) ≡ (term_of terms.items n, entries_under n log.now)) }
 {
-    let mut lists = rooms(alloc, terms, log)?;
+    let mut lists = empty_lists(alloc, terms, log)?;
     for logged in log {
         lists[logged.number as usize].push(logged.entry)?;
     }

@@ -3,8 +3,8 @@
 ghost use Rattle.std.specs.Prelude.{◌≤◌, length, map};
 ghost use Rattle.ats_lists.specs.Leaf.{leaf_bytes};
 
-use ats_postings::Entry;
 use ats_hash::{Hash32, Steps};
+use ats_postings::Entry;
 use ats_tree::{HashedString, Leaves, ShortLeaves};
 
 /// The leaves of the tree of a list: for each entry the document in 4 bytes, then the impact in 2 bytes,

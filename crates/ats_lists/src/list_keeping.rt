@@ -8,11 +8,11 @@ ghost use Rattle.ats_postings.specs.declared.entry.Entry.{Entry};
 ghost use Rattle.ats_lists.specs.declared.format.Format.{Format};
 
 use crate::chain_keeping::Chain;
-use ats_postings::Entry;
 use crate::format::Format;
 use crate::leaves::ListLeaves;
 use crate::memory::OutOfMemory;
 use ats_hash::{Hash32, HashKind, Steps};
+use ats_postings::Entry;
 use ats_tree::{Digests, HashedString, Nodes};
 use std::alloc::Global;
 

@@ -8,10 +8,10 @@ ghost use Rattle.ats_postings.specs.Lists.{lists_of, IsList, AreLists};
 ghost use Rattle.ats_postings.specs.declared.entry.Entry.{Entry as Posting};
 
 use crate::building::ListsBuilder;
-use ats_postings::Entry;
 use crate::memory::OutOfMemory;
 use crate::term_list::TermList;
 use ats_impact::Collection;
+use ats_postings::Entry;
 use ats_terms::TermCounts;
 use std::alloc::Global;
 use std::cmp::Ordering;

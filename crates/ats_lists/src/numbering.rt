@@ -151,7 +151,7 @@ fn remember(terms: &[Key], table: &mut Vec<Slot>, number: u32)
 
 // Enlarges the table if `count` is at least half its slots and it may still grow, and puts the first `count` terms in
 // again.
-fn make_room(terms: &[Key], table: &mut Vec<Slot>, count: u32) -> Result<(), OutOfMemory>
+fn make_space(terms: &[Key], table: &mut Vec<Slot>, count: u32) -> Result<(), OutOfMemory>
     requires slots { AreSlotsOf terms.now table.old.items }
     requires inside { count ≤ length terms.now }
     ensures { AreSlotsOf terms.now table.new.items }
@@ -248,7 +248,7 @@ impl Numbering {
         };
         let many = MANY.max(terms.len().saturating_mul(2));
         let mut table = Vec::new(alloc);
-        make_room(&terms, &mut table, count)?;
+        make_space(&terms, &mut table, count)?;
         Ok(Numbering {
             alloc,
             terms,
@@ -290,7 +290,7 @@ impl Numbering {
             return Err(OutOfMemory);
         };
         self.terms.push(Key::of(self.alloc, term)?)?;
-        make_room(&self.terms, &mut self.table, n)?;
+        make_space(&self.terms, &mut self.table, n)?;
         remember(&self.terms, &mut self.table, n);
         Ok(n)
     }

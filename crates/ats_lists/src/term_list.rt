@@ -4,8 +4,8 @@ ghost use Rattle.std.specs.Prelude.{◌≡◌, ◌++◌, ◌∷◌, [], IfOk, On
 ghost use Rattle.ats_postings.specs.Lists.{by_impact};
 ghost use Rattle.ats_postings.specs.Inner.Lists.{AreGathered};
 
-use ats_postings::Entry;
 use crate::memory::OutOfMemory;
+use ats_postings::Entry;
 use std::alloc::Global;
 use std::cmp::Reverse;
 use std::marker::Model;

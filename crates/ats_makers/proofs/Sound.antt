@@ -16,7 +16,7 @@ use Rattle.ats_makers.specs.Commands.Give.{HasDocument, LacksDocument, give_plan
 use Rattle.ats_makers.specs.Commands.ProveBoth.{prove_both_plan}
 use Rattle.ats_makers.specs.Commands.Grow.{grow_plan}
 use Rattle.ats_makers.proofs.OneBoth.{both_length_exact, one_both_bytes}
-use Rattle.ats_makers.proofs.OneGrowth.{kept_exact}
+use Rattle.ats_makers.proofs.OneGrowth.{withdrawing_exact}
 
 document_exact : (archive : Archive) (doc : ℕ) → IsExact (HasDocument archive doc) (LacksDocument archive doc)
 document_exact archive doc = record {
@@ -51,5 +51,5 @@ module _ (H : List ℕ → List ℕ) where
       (makes (one_both_bytes H archive query) (λ bytes. stores))))
 
   pub grow_sound : (words : GrowWords) → Sound (grow_plan H words)
-  grow_sound words = index_sound (λ older. index_sound (λ newer. tries (kept_exact older newer) (λ stops. not_input stops.2)
+  grow_sound words = index_sound (λ older. index_sound (λ newer. tries (withdrawing_exact older newer) (λ stops. not_input stops.2)
       (makes (λ a b is also. one_growth_join a b (honest H older newer) is also) (λ bytes. stores))))

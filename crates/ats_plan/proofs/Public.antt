@@ -54,7 +54,7 @@ pub use Rattle.ats_plan.proofs.Left.{stops_leaves}
 -- a stop for another cause than the shelf leaves the files as they were
 pub use Rattle.ats_plan.proofs.Left.{stops_files}
 -- a plan of which all steps hold is not refused
-pub use Rattle.ats_plan.proofs.Refusals.{passes_kept}
+pub use Rattle.ats_plan.proofs.Refusals.{passes_not_refused}
 -- a plan is refused in one way at most
 pub use Rattle.ats_plan.proofs.Refusals.{one_refusal}
 -- a command can stop for out of memory before the first step of its plan

@@ -18,30 +18,30 @@ module _ {F : Type 0} (files : Files) where
 
 module _ {F : Type 0} (shelf : F) (files : Files) where
   -- a plan of which all steps hold is not refused
-  pub passes_kept : (plan : Plan F) (stop : F) → IsKnown files plan → IsSound plan → Passes files plan → Refuses shelf files plan stop → ⊥
-  passes_kept (Finishes says) stop known sound passes refused = refused
-  passes_kept (Stores name bytes says) stop known sound passes refused = refused
-  passes_kept (Fails fault) stop known sound passes refused = passes
-  passes_kept (Tries kept fault rest) stop known sound passes (inl here) = sound.0.breaks stop here passes.0
-  passes_kept (Tries kept fault rest) stop known sound passes (inr later) =
-      passes_kept rest stop (known_past files (Tries kept fault rest) rest (λ comes. (later.0, comes)) known) sound.1 passes.1 later.1
-  passes_kept (Gets A is fault rest) stop known sound (a, holds, passes) (inl here) = sound.0.breaks a stop here holds
-  passes_kept (Gets A is fault rest) stop known sound (a, holds, passes) (inr (b, also, later)) =
-      passes_kept (rest b) stop (known_past files (Gets A is fault rest) (rest b) (λ comes. (b, also, comes)) known) (sound.1 b)
+  pub passes_not_refused : (plan : Plan F) (stop : F) → IsKnown files plan → IsSound plan → Passes files plan → Refuses shelf files plan stop → ⊥
+  passes_not_refused (Finishes says) stop known sound passes refused = refused
+  passes_not_refused (Stores name bytes says) stop known sound passes refused = refused
+  passes_not_refused (Fails fault) stop known sound passes refused = passes
+  passes_not_refused (Tries kept fault rest) stop known sound passes (inl here) = sound.0.breaks stop here passes.0
+  passes_not_refused (Tries kept fault rest) stop known sound passes (inr later) =
+      passes_not_refused rest stop (known_past files (Tries kept fault rest) rest (λ comes. (later.0, comes)) known) sound.1 passes.1 later.1
+  passes_not_refused (Gets A is fault rest) stop known sound (a, holds, passes) (inl here) = sound.0.breaks a stop here holds
+  passes_not_refused (Gets A is fault rest) stop known sound (a, holds, passes) (inr (b, also, later)) =
+      passes_not_refused (rest b) stop (known_past files (Gets A is fault rest) (rest b) (λ comes. (b, also, comes)) known) (sound.1 b)
       (subst (λ (x : A). Passes files (rest x)) (sound.0.single a b holds also) passes) later
-  passes_kept (Makes A is rest) stop known sound passes (a, holds, later) =
-      passes_kept (rest a) stop (known_past files (Makes A is rest) (rest a) (λ comes. (a, holds, comes)) known) (sound.1 a) (passes a holds) later
-  passes_kept (Reads name limit long rest) stop known sound (inl (longer, passes)) (inl missing) = missing_short files name limit missing.1 longer
-  passes_kept (Reads name limit long rest) stop known sound (inl (longer, passes)) (inr (inl (also, later))) =
-      passes_kept long stop (inl (known_read files name limit long rest known)) sound.0 passes later
-  passes_kept (Reads name limit long rest) stop known sound (inl (longer, passes)) (inr (inr (b, file, later))) =
+  passes_not_refused (Makes A is rest) stop known sound passes (a, holds, later) =
+      passes_not_refused (rest a) stop (known_past files (Makes A is rest) (rest a) (λ comes. (a, holds, comes)) known) (sound.1 a) (passes a holds) later
+  passes_not_refused (Reads name limit long rest) stop known sound (inl (longer, passes)) (inl missing) = missing_short files name limit missing.1 longer
+  passes_not_refused (Reads name limit long rest) stop known sound (inl (longer, passes)) (inr (inl (also, later))) =
+      passes_not_refused long stop (inl (known_read files name limit long rest known)) sound.0 passes later
+  passes_not_refused (Reads name limit long rest) stop known sound (inl (longer, passes)) (inr (inr (b, file, later))) =
       file_short files name b limit (known_read files name limit long rest known) file longer
-  passes_kept (Reads name limit long rest) stop known sound (inr (a, file, passes)) (inl missing) = file_there files name a limit missing.1 file
-  passes_kept (Reads name limit long rest) stop known sound (inr (a, file, passes)) (inr (inl (longer, later))) =
+  passes_not_refused (Reads name limit long rest) stop known sound (inr (a, file, passes)) (inl missing) = file_there files name a limit missing.1 file
+  passes_not_refused (Reads name limit long rest) stop known sound (inr (a, file, passes)) (inr (inl (longer, later))) =
       file_short files name a limit (known_read files name limit long rest known) file longer
-  passes_kept (Reads name limit long rest) stop known sound (inr (a, file, passes)) (inr (inr (b, also, later))) =
+  passes_not_refused (Reads name limit long rest) stop known sound (inr (a, file, passes)) (inr (inr (b, also, later))) =
       let told = known_read files name limit long rest known in
-      passes_kept (rest b) stop (inl told) (sound.1 b)
+      passes_not_refused (rest b) stop (inl told) (sound.1 b)
       (subst (λ (x : List ℕ). Passes files (rest x)) (one_file files name a b limit limit told file also) passes) later
 
   -- a plan is refused in one way at most

@@ -26,7 +26,6 @@ pub use Rattle.ats_postings.proofs.WholeLemmas.{list_keeps}
 pub use Rattle.ats_postings.proofs.ListedLemmas.{listed}
 -- a term that is under none of a collection's lists has an empty list
 pub use Rattle.ats_postings.proofs.ListedLemmas.{unlisted}
-
 -- ---- what is needed to gather, join and sort entries
 
 -- two runs of which the second begins where the first ends are one

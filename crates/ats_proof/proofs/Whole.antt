@@ -12,7 +12,7 @@ use Rattle.ats_proof.specs.declared.record.Slot.{Slot}
 use Rattle.ats_proof.specs.Parts.{spelled, number_in, parts_in, counted_in, counted_size, counted}
 use Rattle.ats_proof.specs.Value.{IsProof, AreDocumentsOf, digest_fields, slot_fields, id_fields, entry_fields, prefix_fields, doc_fields, section_fields, fields_of, front_fields, header_fields, documents_fields, number_of_format, number_of_algorithm, kind_of_slot, present_in}
 use Rattle.ats_proof.specs.Reading.{digest_in, digest_size, slot_in, slot_size, id_in, id_size, entry_in, entry_size, prefix_in, prefix_size, doc_in, doc_size, section_in, section_size, section_slots_place, format_in, header_in, terms_in, dict_digests_place, slots_place, slots_in, met_place, met_in, lists_place, docs_place, doc_digests_place, sections_place, is_tra, answer_place, documents_in, proof_in}
-use Rattle.ats_proof.specs.Inner.Told.{HasRoom}
+use Rattle.ats_proof.specs.Inner.Told.{HasSpace}
 use Rattle.ats_proof.proofs.Numbers.{AreBytes}
 use Rattle.ats_proof.proofs.Standing.{Stands, HasFront, nothing, then_number, then_bytes}
 use Rattle.ats_proof.proofs.Runs.{state_after, length-parts, then_run, then_counted}
@@ -150,7 +150,7 @@ nothing_after (f ∷ after) come = absurd come.0
 
 pub record IsWhole (bytes : List ℕ) : Type 0 where
   pub is : IsProof bytes (proof_in bytes)
-  pub room : HasRoom bytes
+  pub room : HasSpace bytes
 
 pub documents_whole : (tra : Bool) (bytes : List ℕ) → AreDocumentsOf (proof_in bytes) (documents_in tra bytes)
 documents_whole false bytes = tt

@@ -2,7 +2,7 @@
 
 ghost use Rattle.std.specs.Prelude.{◌≡◌, ◌≤◌, ◌<◌, ◌+◌, ◌*◌, ◌^◌, true, length, drop};
 ghost use Rattle.ats_proof.specs.Reading.{dict_digests_place, slots_place, doc_digests_place, sections_place, answer_place};
-ghost use Rattle.ats_proof.specs.Inner.Told.{HasRoom};
+ghost use Rattle.ats_proof.specs.Inner.Told.{HasSpace};
 
 use crate::bytes::{number_2, number_4};
 use crate::record::{DICT_BACK_BYTES, FRONT_BYTES};
@@ -36,7 +36,7 @@ pub(crate) struct Ended {
 
 // Where the digests of the dictionary begin.
 fn dict_digests_at(bytes: &[u8]) -> usize
-    requires { HasRoom bytes.now }
+    requires { HasSpace bytes.now }
     ensures { result ≡ dict_digests_place bytes.now }
 {
     FRONT_BYTES + counted_leaves_size(DICT_BACK_BYTES, bytes.split_at(FRONT_BYTES).1)
@@ -44,7 +44,7 @@ fn dict_digests_at(bytes: &[u8]) -> usize
 
 // Where the slots begin, after those digests.
 fn slots_at(bytes: &[u8], dict_digests: usize) -> usize
-    requires room { HasRoom bytes.now }
+    requires room { HasSpace bytes.now }
     requires at { dict_digests ≡ dict_digests_place bytes.now }
     ensures { result ≡ slots_place bytes.now }
 {
@@ -66,7 +66,7 @@ impl Begun {
 
     /// The parts up to the prefixes.
     pub(crate) fn of(bytes: &[u8]) -> Begun
-        requires { HasRoom bytes.now }
+        requires { HasSpace bytes.now }
         ensures { IsBegun bytes.now result }
     {
         let terms = u32::from(number_2(bytes.split_at(111).1));
@@ -111,7 +111,7 @@ impl Ended {
 
     /// The parts after the prefixes.
     pub(crate) fn of(bytes: &[u8], tra: bool, docs: usize, met: u32, present: u32) -> Ended
-        requires room { HasRoom bytes.now }
+        requires room { HasSpace bytes.now }
         requires tra { tra ≡ is_tra bytes.now }
         requires docs { docs ≡ docs_place bytes.now }
         requires met { met ≡ met_in bytes.now }

@@ -5,7 +5,7 @@ ghost use Rattle.ats_grammar.specs.declared.fault.ShapeFault.{ShapeFault};
 ghost use Rattle.ats_grammar.specs.Front.{IsBad, IsSpelling};
 ghost use Rattle.ats_grammar.specs.Grammar.{proof_schema};
 ghost use Rattle.ats_proof.specs.Reading.{proof_in};
-ghost use Rattle.ats_proof.specs.Inner.Told.{HasRoom};
+ghost use Rattle.ats_proof.specs.Inner.Told.{HasSpace};
 ghost use Rattle.ats_proof.specs.Value.{IsProof};
 
 use crate::bytes::number_1;
@@ -18,7 +18,7 @@ use ats_grammar::{ShapeFault, scan};
 fn are_a_proof(bytes: &[u8])
     requires { IsSpelling proof_schema bytes.now }
     ensures proof { IsProof bytes.now (proof_in bytes.now) }
-    ensures room { HasRoom bytes.now }
+    ensures room { HasSpace bytes.now }
 {}
 
 impl<'a> ProofView<'a> {

@@ -8,10 +8,10 @@ use Rattle.ats_commit.specs.Archive.{Archive}
 use Rattle.ats_commit.specs.Root.{root_of}
 use Rattle.ats_proof.specs.Value.{Proof}
 use Rattle.ats_client.specs.Bytes.{IsAcceptedBytes}
-use Rattle.ats_client.specs.Strings.{extract}
-use Rattle.ats_client.proofs.Public.{extract-collides}
+use Rattle.ats_client.specs.Strings.{proof_collision}
+use Rattle.ats_client.proofs.Public.{collision-collides}
 use Rattle.ats_conjunction.specs.Bytes.{AreAcceptedBytes}
-use Rattle.ats_inclusion.specs.Strings.{text_extract}
+use Rattle.ats_inclusion.specs.Strings.{text_collision}
 use Rattle.ats_inclusion.specs.Value.{TextProof}
 use Rattle.ats_inclusion.specs.Bytes.{IsAcceptedText}
 use Rattle.ats_fetch.proofs.Public as texts
@@ -27,7 +27,7 @@ use Rattle.ats_top.specs.Calling.{MayCall, MayOpen}
 use Rattle.ats_auditors.specs.Collided.{Collides, lines_of_proof_collision, lines_of_growth_collision, lines_of_text_collision}
 use Rattle.ats_top.specs.Commands.{plan_of}
 use Rattle.ats_top.specs.Outside.{Outside}
-use Rattle.ats_top.specs.Run.{IsCommandServed, Excuse, NoMemory, SinkFailed, ShelfFailed, CallerFailed, DoorBroke, Ran}
+use Rattle.ats_top.specs.Run.{StepsHold, Excuse, NoMemory, SinkFailed, ShelfFailed, CallerFailed, DoorBroke, Ran}
 use Rattle.ats_top.specs.Serving.{Took}
 use Rattle.ats_top.specs.Theorem.{AuditsProof, AuditsText, AuditsBoth, AuditsGrowth, IsHindered, IsCaught}
 use Rattle.ats_console.specs.declared.stops.Stop.TheVariants.{Shelf, Collision}
@@ -44,7 +44,7 @@ module _ (H : List ℕ → List ℕ) (said : List (List ℕ)) (before now : Outs
   hindered (ShelfFailed three comes rose) = inr (inl (three, rose))
   hindered (CallerFailed eight may rose) = absurd (calls (its said MayCall command may is))
   hindered (DoorBroke may failed) =
-      absurd (opens (its said (λ c. MayOpen c × IsCommandServed H before.shelf.files c) command may is).0)
+      absurd (opens (its said (λ c. MayOpen c × StepsHold H before.shelf.files c) command may is).0)
 
   collision_printed : (lines : List ℕ) → IsTold before.shelf.files → Refuses Shelf before.shelf.files (plan_of H command) (Collision lines) → Ran H said before now status
       → ((status ≡ 5) × Took before.sink now.sink lines) ⊎ IsHindered before now status
@@ -84,10 +84,10 @@ or_caught (inr some) caught = inr (caught some)
 module _ (H : List ℕ → List ℕ) (root : List ℕ) (bytes : List ℕ) (archive : Archive) (is : root_of H archive ≡ root) where
   -- the bytes of a proof of an answer
   pub proof_caught : (r : ℕ) (text : List ℕ) (query : List (List ℕ × ℕ)) (proof : Proof) → AsksRanking r text → IsQueryOf text query → IsAcceptedBytes H root query r bytes proof
-      → IsSome (extract H archive query proof) → IsCaught H lines_of_proof_collision (AuditsProof H archive r text bytes)
+      → IsSome (proof_collision H archive query proof) → IsCaught H lines_of_proof_collision (AuditsProof H archive r text bytes)
   proof_caught r text query proof asks asked accepted =
       let own = subst (λ (other : List ℕ). IsAcceptedBytes H other query r bytes proof) (sym is) accepted in
-      caught H (extract H archive query proof) lines_of_proof_collision (AuditsProof H archive r text bytes) (extract-collides H archive query proof) (λ c two said files audits. (
+      caught H (proof_collision H archive query proof) lines_of_proof_collision (AuditsProof H archive r text bytes) (collision-collides H archive query proof) (λ c two said files audits. (
         Audit (record { index = audits.index; r = r; query = text; proof = audits.proof }),
         ap command_of audits.says ∙ ap (option_map (λ n. Audit (record { index = audits.index; r = n; query = text; proof = audits.proof }))) audits.number,
         (λ never. never),
@@ -97,10 +97,10 @@ module _ (H : List ℕ → List ℕ) (root : List ℕ) (bytes : List ℕ) (archi
 
   -- those of a text
   pub text_caught : (doc : ℕ) (proof : TextProof) → IsAcceptedText H root doc bytes proof
-      → IsSome (text_extract H archive doc proof) → IsCaught H lines_of_text_collision (AuditsText H archive doc bytes)
+      → IsSome (text_collision H archive doc proof) → IsCaught H lines_of_text_collision (AuditsText H archive doc bytes)
   text_caught doc proof accepted =
       let own = subst (λ (other : List ℕ). IsAcceptedText H other doc bytes proof) (sym is) accepted in
-      caught H (text_extract H archive doc proof) lines_of_text_collision (AuditsText H archive doc bytes) (texts.extract-collides H archive doc proof) (λ c two said files audits. (
+      caught H (text_collision H archive doc proof) lines_of_text_collision (AuditsText H archive doc bytes) (texts.collision-collides H archive doc proof) (λ c two said files audits. (
         AuditFetch (record { index = audits.index; doc = doc; file = audits.text }),
         ap command_of audits.says ∙ ap (option_map (λ n. AuditFetch (record { index = audits.index; doc = n; file = audits.text }))) audits.number,
         (λ never. never),
@@ -110,10 +110,10 @@ module _ (H : List ℕ → List ℕ) (root : List ℕ) (bytes : List ℕ) (archi
 
   -- those of a proof of all documents with every term
   pub both_caught : (text : List ℕ) (query : List (List ℕ × ℕ)) (proof : Proof) → IsQueryOf text query → AreAcceptedBytes H root query bytes proof
-      → IsSome (extract H archive query proof) → IsCaught H lines_of_proof_collision (AuditsBoth H archive text bytes)
+      → IsSome (proof_collision H archive query proof) → IsCaught H lines_of_proof_collision (AuditsBoth H archive text bytes)
   both_caught text query proof asked accepted =
       let own = subst (λ (other : List ℕ). AreAcceptedBytes H other query bytes proof) (sym is) accepted in
-      caught H (extract H archive query proof) lines_of_proof_collision (AuditsBoth H archive text bytes) (extract-collides H archive query proof) (λ c two said files audits. (
+      caught H (proof_collision H archive query proof) lines_of_proof_collision (AuditsBoth H archive text bytes) (collision-collides H archive query proof) (λ c two said files audits. (
         AuditBoth (record { index = audits.index; query = text; proof = audits.proof }),
         ap command_of audits.says,
         (λ never. never),
@@ -124,11 +124,11 @@ module _ (H : List ℕ → List ℕ) (root : List ℕ) (bytes : List ℕ) (archi
 -- and those of a growth
 pub growth_caught : (H : List ℕ → List ℕ) (old_root new_root bytes : List ℕ) (shown : Growth) → IsAcceptedGrowth H old_root new_root bytes shown
     → (older newer : Archive) → root_of H older ≡ old_root → root_of H newer ≡ new_root
-    → IsSome (growth.extract H older newer shown) → IsCaught H lines_of_growth_collision (AuditsGrowth H older newer bytes)
+    → IsSome (growth.growth_collision H older newer shown) → IsCaught H lines_of_growth_collision (AuditsGrowth H older newer bytes)
 growth_caught H old_root new_root bytes shown accepted older newer is also =
     let own = subst (λ (root : List ℕ). IsAcceptedGrowth H root (root_of H newer) bytes shown) (sym is)
     (subst (λ (root : List ℕ). IsAcceptedGrowth H old_root root bytes shown) (sym also) accepted) in
-    caught H (growth.extract H older newer shown) lines_of_growth_collision (AuditsGrowth H older newer bytes) (growths.extract-collides H older newer shown) (λ c two said files audits. (
+    caught H (growth.growth_collision H older newer shown) lines_of_growth_collision (AuditsGrowth H older newer bytes) (growths.collision-collides H older newer shown) (λ c two said files audits. (
       AuditGrowth (record { old = audits.old; new = audits.new; file = audits.growth }),
       ap command_of audits.says,
       (λ never. never),

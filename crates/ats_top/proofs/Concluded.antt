@@ -4,7 +4,7 @@ use Rattle.ats_base.specs.Outside.{Rose, ShelfTold, StoresOnce}
 use Rattle.ats_plan.specs.Plan.{Refuses, Passes, ComesToShelf, IsKnown, LacksFirst, Leaves}
 use Rattle.ats_plan.specs.Runs.{IsDone, IsStopped}
 use Rattle.ats_plan.specs.Inner.Sound.{IsSound}
-use Rattle.ats_plan.proofs.Public.{Cause, Refused, Wanted, Broken, stop_cause, one_refusal, passes_kept, does_passes, does_asked, does_counts, does_later, does_leaves, does_untouched, stops_asked, stops_alone, stops_counts, stops_files, stops_later, stops_leaves, stops_uncounted, stops_untouched}
+use Rattle.ats_plan.proofs.Public.{Cause, Refused, Wanted, Broken, stop_cause, one_refusal, passes_not_refused, does_passes, does_asked, does_counts, does_later, does_leaves, does_untouched, stops_asked, stops_alone, stops_counts, stops_files, stops_later, stops_leaves, stops_uncounted, stops_untouched}
 use Rattle.ats_console.specs.Words.{Command, command_of}
 use Rattle.ats_console.specs.Stops.{End, Done, Stopped, Unprinted, status_of, status_of_stop, former_of, last_of}
 use Rattle.ats_top.specs.Outside.{Outside}
@@ -12,12 +12,12 @@ use Rattle.ats_top.specs.Commands.{plan_of}
 use Rattle.ats_top.specs.Calling.{HasCalled, HasOpened}
 use Rattle.ats_top.specs.Counts.{CountsFaults}
 use Rattle.ats_top.specs.Serving.{Took}
-use Rattle.ats_top.specs.Run.{Said, IsCompleted, StoppedEarly, StoppedLate, IsHalted, RunEnds, PrintsLast, Ended, IsStatus, StopDecides, PassingDecides, HeardDecides, Decides, Excuse, NoMemory, SinkFailed, ShelfFailed, CallerFailed, DoorBroke, HasAsked, Ran}
+use Rattle.ats_top.specs.Run.{AreOfCommand, IsCompleted, StoppedEarly, StoppedLate, IsHalted, RunEnds, PrintsLast, Ended, IsStatus, StopDecides, PassingDecides, HeardDecides, Decides, Excuse, NoMemory, SinkFailed, ShelfFailed, CallerFailed, DoorBroke, HasAsked, Ran}
 use Rattle.ats_console.specs.declared.stops.Stop.{Stop}
 use Rattle.ats_console.specs.declared.stops.Stop.TheVariants.{Usage, Shelf, Input, Rejected, Memory, Link, Peer, Faults, Collision}
 use Rattle.ats_top.proofs.NoUsage.{halted_otherwise}
 use Rattle.ats_top.proofs.OneCommand.{its}
-use Rattle.ats_top.proofs.LinkEnds.{served_passes, links_wait, links_served, replied_calls, replied_passes, replied_unread, replied_done, replied_stop}
+use Rattle.ats_top.proofs.LinkEnds.{steps_pass, links_wait, stopped_though_steps_hold, replied_calls, replied_passes, replied_unread, replied_done, replied_stop}
 
 no_command : (said : List (List ℕ)) (command : Command) → command_of said ≡ None → command_of said ≡ Some command → ⊥
 no_command said command none some = let both = sym none ∙ some in cc
@@ -109,7 +109,7 @@ module _ (H : List ℕ → List ℕ) (said : List (List ℕ)) (before now : Outs
     module _ (sound : IsSound (plan_of H command)) where
       passes_unrefused : (stop : Stop) → IsKnown before.shelf.files (plan_of H command) → Passes before.shelf.files (plan_of H command)
           → Refuses Shelf before.shelf.files (plan_of H command) stop → ⊥
-      passes_unrefused stop known passes refuses = passes_kept Shelf before.shelf.files (plan_of H command) stop known sound passes refuses
+      passes_unrefused stop known passes refuses = passes_not_refused Shelf before.shelf.files (plan_of H command) stop known sound passes refuses
 
       -- a plan that is done is not refused
       done_unrefused : (k : ℕ) (text : List ℕ) → StopDecides H before.shelf.files command k → IsDone (plan_of H command) before.shelf now.shelf text → ⊥
@@ -126,7 +126,7 @@ module _ (H : List ℕ → List ℕ) (said : List (List ℕ)) (before now : Outs
 
       passing_late : (k : ℕ) (text : List ℕ) (stop : Stop) → PassingDecides H before.shelf.files command k → StoppedLate H before now command text stop
           → Agrees k (status_of_stop stop)
-      passing_late k text stop decides late = elim (links_served H before now command text stop decides.served late.links) [
+      passing_late k text stop decides late = elim (stopped_though_steps_hold H before now command text stop decides.served late.links) [
         | inl memory ↦ inr (NoMemory memory (command, is, tt))
         | inr failed ↦ inr (DoorBroke (command, is, (failed.0, decides.served)) failed.1)
       ]
@@ -135,7 +135,7 @@ module _ (H : List ℕ → List ℕ) (said : List (List ℕ)) (before now : Outs
       passing_decided k decides = by_end (Agrees k)
           (λ text completed. inl (sym decides.is))
           (λ text stop early. early_agrees k text stop
-          (λ refuses. absurd (passes_unrefused stop decides.known (served_passes H before.shelf.files command decides.served) refuses)) early)
+          (λ refuses. absurd (passes_unrefused stop decides.known (steps_pass H before.shelf.files command decides.served) refuses)) early)
           (λ text stop late. passing_late k text stop decides late)
 
       module _ (k : ℕ) (decides : HeardDecides H before now command k) where
@@ -165,7 +165,7 @@ module _ (H : List ℕ → List ℕ) (said : List (List ℕ)) (before now : Outs
 
   -- the shelf was left, or the command of the words went so
   abbrev WentSo : ℕ → Type 0
-  WentSo status = (now.shelf ≡ before.shelf) ⊎ Said said (Went status)
+  WentSo status = (now.shelf ≡ before.shelf) ⊎ AreOfCommand said (Went status)
 
   halted_went : (command : Command) (text : List ℕ) (stop : Stop) → IsHalted H before now command text stop → Went (status_of_stop stop) command
   halted_went command text stop (inl early) = inr (stop, refl, early.plan)
@@ -178,7 +178,7 @@ module _ (H : List ℕ → List ℕ) (said : List (List ℕ)) (before now : Outs
   end_went (Stopped text stop) (inr (command, is, halted)) = inr (command, is, halted_went command text stop halted)
 
   abbrev Left : Type 0
-  Left = (now.shelf.files ≡ before.shelf.files) ⊎ Said said (λ command. Leaves before.shelf.files now.shelf.files (plan_of H command))
+  Left = (now.shelf.files ≡ before.shelf.files) ⊎ AreOfCommand said (λ command. Leaves before.shelf.files now.shelf.files (plan_of H command))
 
   left_said : (command : Command) → command_of said ≡ Some command
       → (now.shelf.files ≡ before.shelf.files) ⊎ Leaves before.shelf.files now.shelf.files (plan_of H command) → Left
@@ -191,19 +191,19 @@ module _ (H : List ℕ → List ℕ) (said : List (List ℕ)) (before now : Outs
     files_went (inr (command, is, inl (text, how, done))) = left_said command is (does_leaves (plan_of H command) before.shelf now.shelf text done.so)
     files_went (inr (command, is, inr (stop, same, stopped))) = left_said command is (stops_leaves Shelf Memory (plan_of H command) before.shelf now.shelf stop stopped.so)
 
-    asked_went : WentSo status → (now.shelf ≡ before.shelf) ⊎ Said said (HasAsked H StoresOnce before.shelf now.shelf)
+    asked_went : WentSo status → (now.shelf ≡ before.shelf) ⊎ AreOfCommand said (HasAsked H StoresOnce before.shelf now.shelf)
     asked_went (inl same) = inl same
     asked_went (inr (command, is, inl (text, how, done))) = inr (command, is, does_asked (plan_of H command) before.shelf now.shelf text done.so)
     asked_went (inr (command, is, inr (stop, same, stopped))) = inr (command, is, stops_asked Shelf Memory (plan_of H command) before.shelf now.shelf stop stopped.so)
 
-    unread_went : WentSo status → Said said (λ command. ComesToShelf (plan_of H command) → ⊥) → now.shelf ≡ before.shelf
+    unread_went : WentSo status → AreOfCommand said (λ command. ComesToShelf (plan_of H command) → ⊥) → now.shelf ≡ before.shelf
     unread_went (inl same) none = same
     unread_went (inr (command, is, inl (text, how, done))) none =
         does_untouched (plan_of H command) before.shelf now.shelf text (its said (λ c. ComesToShelf (plan_of H c) → ⊥) command none is) done.so
     unread_went (inr (command, is, inr (stop, same, stopped))) none =
         stops_untouched Shelf Memory (plan_of H command) before.shelf now.shelf stop (its said (λ c. ComesToShelf (plan_of H c) → ⊥) command none is) stopped.so
 
-    uncounted_went : WentSo status → Said said (λ command. LacksFirst before.shelf.files (plan_of H command)) → now.shelf.faults ≡ before.shelf.faults
+    uncounted_went : WentSo status → AreOfCommand said (λ command. LacksFirst before.shelf.files (plan_of H command)) → now.shelf.faults ≡ before.shelf.faults
     uncounted_went (inl same) lacks = ap (λ (told : ShelfTold). told.faults) same
     uncounted_went (inr (command, is, inl (text, how, done))) lacks = does_counts (plan_of H command) before.shelf now.shelf text done.so
     uncounted_went (inr (command, is, inr (stop, same, stopped))) lacks =
@@ -223,7 +223,7 @@ module _ (H : List ℕ → List ℕ) (said : List (List ℕ)) (before now : Outs
     -- the files were left, and the calls on the shelf stored none
     abbrev Unstored : Type 0
     Unstored = (now.shelf ≡ before.shelf)
-        ⊎ ((now.shelf.files ≡ before.shelf.files) × Said said (HasAsked H (λ name asks. ⊥) before.shelf now.shelf))
+        ⊎ ((now.shelf.files ≡ before.shelf.files) × AreOfCommand said (HasAsked H (λ name asks. ⊥) before.shelf now.shelf))
 
     stopped_unstored : (command : Command) (stop : Stop) → command_of said ≡ Some command → stop ≢ Shelf
         → IsStopped Shelf Memory (plan_of H command) before.shelf now.shelf stop → Unstored
@@ -267,7 +267,7 @@ module _ (H : List ℕ → List ℕ) (said : List (List ℕ)) (before now : Outs
 
     -- 0 is the status of what is done
     abbrev IsDoneSo : Type 0
-    IsDoneSo = Said said (λ command. (text : List ℕ) × IsCompleted H before now command text × Took before.sink now.sink text)
+    IsDoneSo = AreOfCommand said (λ command. (text : List ℕ) × IsCompleted H before now command text × Took before.sink now.sink text)
 
     done_end : (end : End) → RunEnds H before now said end → result ≡ 0 → result ≡ status_of end
         → Took before.sink now.sink (former_of end ++ last_of end) → IsDoneSo
@@ -326,8 +326,8 @@ module _ (H : List ℕ → List ℕ) (said : List (List ℕ)) (before now : Outs
     ]
 
     pub ran : ((command : Command) → IsSound (plan_of H command)) → (result ≢ 8 → result ≢ 7 → now.caller.faults ≡ before.caller.faults)
-        → (result ≢ 8 → result ≢ 7 → now.door.faults ≡ before.door.faults) → (now.caller ≡ before.caller) ⊎ Said said (HasCalled before.caller now.caller)
-        → (now.door ≡ before.door) ⊎ Said said (HasOpened before.door now.door) → before.sink.faults ≤ now.sink.faults → Ran H said before now result
+        → (result ≢ 8 → result ≢ 7 → now.door.faults ≡ before.door.faults) → (now.caller ≡ before.caller) ⊎ AreOfCommand said (HasCalled before.caller now.caller)
+        → (now.door ≡ before.door) ⊎ AreOfCommand said (HasOpened before.door now.door) → before.sink.faults ≤ now.sink.faults → Ran H said before now result
     ran sound caller_count door_count called opened sink_later = record {
       ended = ended;
       status = status;

@@ -27,11 +27,11 @@ use Rattle.ats_auditors.specs.Gathered.{IsGathered, AreGathered, AreAllThere, si
 use Rattle.ats_auditors.specs.Findings.{Finding, FoundRight, IsFinding, AreFindings, IsHonestLine, is_refused, is_collision}
 use Rattle.ats_console.specs.Steps.{reads_file}
 use Rattle.ats_auditors.specs.Commands.Sweep.{gathers, audits, sweeps}
-use Rattle.ats_top.specs.Run.{IsCommandServed}
+use Rattle.ats_top.specs.Run.{StepsHold}
 use Rattle.ats_auditors.specs.declared.gathering.Gathered.{Gathered}
 use Rattle.ats_auditors.specs.declared.gathering.Gathered.TheVariants.{Whole, Long}
 use Rattle.ats_console.specs.declared.stops.Stop.{Stop}
-use Rattle.ats_top.proofs.HonestServed.{bytes_accepted}
+use Rattle.ats_top.proofs.HonestAccepted.{bytes_accepted}
 use Rattle.ats_auditors.proofs.Public.{one_findings}
 
 -- ---- the proofs that are gathered
@@ -214,14 +214,14 @@ module _ (H : List ℕ → List ℕ) (sized : (m : List ℕ) → length (H m) �
         passes_one H sized None archive index spelling words bytes line lines one same are.0 (All-head (IsHonestLine H None archive) one listed honest),
       )
 
-  pub sweep_served : (files : Files) (words : SweepWords) (listed : List Listed) → HasIndex H files words.index archive → IsList files words.list listed
-      → AreAllThere files (names_of listed) → All (IsHonestLine H files archive) listed → IsCommandServed H files (Sweep words)
-  sweep_served None words listed index list there honest = inr (
+  pub sweep_steps_hold : (files : Files) (words : SweepWords) (listed : List Listed) → HasIndex H files words.index archive → IsList files words.list listed
+      → AreAllThere files (names_of listed) → All (IsHonestLine H files archive) listed → StepsHold H files (Sweep words)
+  sweep_steps_hold None words listed index list there honest = inr (
     index.bytes,
     index.file,
     (archive, index.spelling, unreported words list.bytes (lines_of list.bytes) listed refl list.list.each list.list.some list.file.short index.bytes index.spelling honest),
   )
-  sweep_served (Some map) words listed index list there honest =
+  sweep_steps_hold (Some map) words listed index list there honest =
       let right = all_right H sized (Some map) archive index.bytes index.spelling refl listed there.0 there.1.each honest in
       inr (
         index.bytes,

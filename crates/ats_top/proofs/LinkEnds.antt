@@ -15,7 +15,7 @@ use Rattle.ats_top.specs.Commands.Ask.{ask_plan}
 use Rattle.ats_top.specs.Commands.Serve.{serve_plan}
 use Rattle.ats_top.specs.Inner.Outcome.{HasLine}
 use Rattle.ats_console.specs.Stops.{status_of_stop}
-use Rattle.ats_top.specs.Run.{LinksDone, LinksStop, IsCommandServed, DoorFailed}
+use Rattle.ats_top.specs.Run.{LinksDone, LinksStop, StepsHold, DoorFailed}
 use Rattle.ats_console.specs.declared.stops.Stop.{Stop}
 use Rattle.ats_console.specs.declared.stops.Stop.TheVariants.{Shelf, Memory}
 use Rattle.ats_top.proofs.Linked.{serving_status, serving_line}
@@ -43,10 +43,10 @@ module _ (before now : ShelfTold) (text : List ℕ) where
   serve_waits H words (mid, read, calm, inr (bytes, file, (archive, spelling, (same, is)))) =
       inr (inr (mid, read, calm, inr (bytes, file, inr (archive, spelling, (same, refl)))))
 
--- all steps of a command that is served hold
-pub served_passes : (H : List ℕ → List ℕ) (files : Files) (command : Command) → IsCommandServed H files command → Passes files (plan_of H command)
-served_passes H files (Ask words) served = absurd served
-served_passes H files other served = served
+-- if all steps of a command hold, its plan passes
+pub steps_pass : (H : List ℕ → List ℕ) (files : Files) (command : Command) → StepsHold H files command → Passes files (plan_of H command)
+steps_pass H files (Ask words) served = absurd served
+steps_pass H files other served = served
 
 module _ (H : List ℕ → List ℕ) (before now : Outside) where
   -- if memory for the line of a stop runs out, the stop is out of memory
@@ -62,15 +62,15 @@ module _ (H : List ℕ → List ℕ) (before now : Outside) where
   links_wait (Serve words) text stop links done = record { so = serve_waits before.shelf now.shelf text H words done.so }
   links_wait other text stop links done = absurd links
 
-  -- if the command is served, memory ran out or the door failed
-  pub links_served : (command : Command) (text : List ℕ) (stop : Stop) → IsCommandServed H before.shelf.files command → LinksStop H before now command text stop
+  -- if all steps of the command hold, memory ran out or the door failed
+  pub stopped_though_steps_hold : (command : Command) (text : List ℕ) (stop : Stop) → StepsHold H before.shelf.files command → LinksStop H before now command text stop
       → (status_of_stop stop ≡ 6) ⊎ (MayOpen command × DoorFailed before.door now.door (status_of_stop stop))
-  links_served (Ask words) text stop served links = absurd served
-  links_served (Serve words) text stop served links = elim (serving_status H before.shelf.files words before.door now.door text stop links) [
+  stopped_though_steps_hold (Ask words) text stop served links = absurd served
+  stopped_though_steps_hold (Serve words) text stop served links = elim (serving_status H before.shelf.files words before.door now.door text stop links) [
     | inl memory ↦ inl memory
     | inr failed ↦ inr (tt, failed)
   ]
-  links_served other text stop served links = absurd links
+  stopped_though_steps_hold other text stop served links = absurd links
 
   -- a command to which there is a reply
   module _ (k : ℕ) where

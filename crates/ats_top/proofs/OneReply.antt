@@ -3,7 +3,7 @@ use Rattle.std.proofs.Common.{◌≡◌, ◌∙◌, ℕ, List, Ok, Err, IsSome, 
 use Rattle.ats_base.specs.Links.{CallerTold}
 use Rattle.ats_client.specs.Bytes.{IsAcceptedBytes}
 use Rattle.ats_refusal.specs.declared.proof.Rejection.{Rejection}
-use Rattle.ats_client.proofs.Public.{accepted_kept}
+use Rattle.ats_client.proofs.Public.{accepted_not_refused}
 use Rattle.ats_console.specs.Words.{AskWords, Command, Ask}
 use Rattle.ats_top.specs.Calling.{ReplyDecides}
 use Rattle.ats_top.specs.Asked.{question_of, IsReplyRead, IsReplyAccepted, IsReplyRejected, IsReplyFault, Decides}
@@ -20,7 +20,7 @@ module _ (H : List ℕ → List ℕ) (before now : CallerTold) (words : AskWords
       let asked : is.query ≡ also.query = is.replied.asked.same ∙ sym also.replied.asked.same in
       let accepted = subst (λ (bytes : List ℕ). IsAcceptedBytes H words.root also.query words.r bytes is.proof) same
       (subst (λ (query : List (List ℕ × ℕ)). IsAcceptedBytes H words.root query words.r is.bytes is.proof) asked is.accepted) in
-      accepted_kept H words.root also.query words.r also.bytes is.proof rejection accepted also.rejected
+      accepted_not_refused H words.root also.query words.r also.bytes is.proof rejection accepted also.rejected
 
   -- a reply with a proof has no fault
   replied_fault : (query : List (List ℕ × ℕ)) (bytes : List ℕ) → IsReplyRead before now words query bytes → (line : List ℕ) → IsReplyFault before now words line → ⊥

@@ -57,8 +57,8 @@ noted_keep address connections (Some was) now (inl same) = (was, same, record { 
 noted_keep address connections (Some was) now (inr noted) = (noting_listen address was, noted, record { addresses = inr refl; accepts = omega arith; out = refl })
 
 module _ (H : List ℕ → List ℕ) (files : Files) (words : ServeWords) (before : DoorTold) where
-  served_opens : (now : DoorTold) (sessions : List Session) → HasServed H files words before now sessions → Opens words before now
-  served_opens now sessions served = record {
+  opens_if_steps_hold : (now : DoorTold) (sessions : List Session) → HasServed H files words before now sessions → Opens words before now
+  opens_if_steps_hold now sessions served = record {
     content = listened_keep words.address sessions words.connections before.content served.opened.content now.content served.listened.content served.had.content served.few;
     later = omega (arith, served.listened.kept, served.had.kept);
   }
@@ -73,15 +73,15 @@ module _ (H : List ℕ → List ℕ) (files : Files) (words : ServeWords) (befor
   }
 
   pub attends_opens : (was now : DoorAndSink) (result : Result ℕ Halt) → was.door ≡ before → Attends H files words was now result → Opens words before now.door
-  attends_opens was now (Ok faults) is (text, took, all) = served_opens now.door all.sessions (subst (λ (d : DoorTold). HasServed H files words d now.door all.sessions) is all.served)
+  attends_opens was now (Ok faults) is (text, took, all) = opens_if_steps_hold now.door all.sessions (subst (λ (d : DoorTold). HasServed H files words d now.door all.sessions) is all.served)
   attends_opens was now (Err Door) is (text, took, inl shut) = subst (λ (d : DoorTold). Opens words d now.door) is (record {
     content = noted_keep words.address words.connections was.door.content now.door.content shut.failed.content;
     later = shut.failed.later;
   })
   attends_opens was now (Err Door) is (text, took, inr broken) =
       broken_opens broken.mid now.door broken.sessions (subst (λ (d : DoorTold). HasServed H files words d broken.mid broken.sessions) is broken.served) broken.fewer broken.failed
-  attends_opens was now (Err Sink) is (former, last, failed, some) = served_opens now.door some.sessions (subst (λ (d : DoorTold). HasServed H files words d now.door some.sessions) is some.served)
-  attends_opens was now (Err Memory) is (text, took, some) = served_opens now.door some.sessions (subst (λ (d : DoorTold). HasServed H files words d now.door some.sessions) is some.served)
+  attends_opens was now (Err Sink) is (former, last, failed, some) = opens_if_steps_hold now.door some.sessions (subst (λ (d : DoorTold). HasServed H files words d now.door some.sessions) is some.served)
+  attends_opens was now (Err Memory) is (text, took, some) = opens_if_steps_hold now.door some.sessions (subst (λ (d : DoorTold). HasServed H files words d now.door some.sessions) is some.served)
 
 -- over a link whose count of faults is 0 no connection ends by a fault
 calm_end : (broken : Bool) (came left : LinkTold) → FailsOnce broken came left → came.faults ≡ 0 → left.faults ≡ 0 → broken ≡ false

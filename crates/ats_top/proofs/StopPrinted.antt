@@ -5,13 +5,13 @@ use Rattle.ats_plan.specs.Files.{Files}
 use Rattle.ats_plan.specs.Plan.{Refuses, Passes, IsKnown}
 use Rattle.ats_plan.specs.Runs.{IsDone}
 use Rattle.ats_plan.specs.Inner.Sound.{IsSound}
-use Rattle.ats_plan.proofs.Public.{Cause, Refused, Wanted, Broken, stop_cause, one_refusal, passes_kept, does_passes}
+use Rattle.ats_plan.proofs.Public.{Cause, Refused, Wanted, Broken, stop_cause, one_refusal, passes_not_refused, does_passes}
 use Rattle.ats_console.specs.Words.{Command, Ask, Serve, command_of}
 use Rattle.ats_console.specs.Stops.{End, Done, Stopped, Unprinted, status_of, status_of_stop, former_of, last_of, text_of_stop}
 use Rattle.ats_top.specs.Calling.{MayCall, MayOpen}
 use Rattle.ats_top.specs.Commands.{plan_of}
 use Rattle.ats_top.specs.Outside.{Outside}
-use Rattle.ats_top.specs.Run.{IsCompleted, IsHalted, IsUnprinted, RunEnds, IsCommandServed, LinksStop, LinksUnprinted, PrintsLast, Excuse, NoMemory, SinkFailed, ShelfFailed, Ran}
+use Rattle.ats_top.specs.Run.{IsCompleted, IsHalted, IsUnprinted, RunEnds, StepsHold, LinksStop, LinksUnprinted, PrintsLast, Excuse, NoMemory, SinkFailed, ShelfFailed, Ran}
 use Rattle.ats_top.specs.Serving.{Took}
 use Rattle.ats_console.specs.declared.stops.Stop.{Stop}
 use Rattle.ats_console.specs.declared.stops.Stop.TheVariants.{Usage, Shelf, Input, Rejected, Memory, Link, Peer, Faults, Collision}
@@ -36,7 +36,7 @@ module _ (H : List ℕ → List ℕ) (said : List (List ℕ)) (before now : Outs
     (refuses : Refuses Shelf before.shelf.files (plan_of H command) stop) where
   -- such a command is not done up to the end of its plan
   unfinished : (text : List ℕ) → IsDone (plan_of H command) before.shelf now.shelf text → ⊥
-  unfinished text done = passes_kept Shelf before.shelf.files (plan_of H command) stop known sound (does_passes (plan_of H command) before.shelf now.shelf text sound done.so) refuses
+  unfinished text done = passes_not_refused Shelf before.shelf.files (plan_of H command) stop known sound (does_passes (plan_of H command) before.shelf now.shelf text sound done.so) refuses
 
   -- a stop of the same status is that stop
   one_cause : (other : Stop) → status_of_stop stop ≡ status_of_stop other → Cause Shelf Memory (plan_of H command) before.shelf now.shelf other → other ≡ stop
@@ -87,10 +87,10 @@ unlinked_print H before now (Serve words) former last opens links = opens tt
 unlinked_print H before now other former last opens links = links
 
 -- if such a command is done, all its steps hold
-unlinked_served : (H : List ℕ → List ℕ) (before now : Outside) (command : Command) (text : List ℕ) → (MayCall command → ⊥) → IsCompleted H before now command text
-    → Passes before.shelf.files (plan_of H command) → IsCommandServed H before.shelf.files command
-unlinked_served H before now (Ask words) text calls completed passes = absurd (calls completed.links.accepted.replied.asks)
-unlinked_served H before now other text calls completed passes = passes
+unlinked_steps_hold : (H : List ℕ → List ℕ) (before now : Outside) (command : Command) (text : List ℕ) → (MayCall command → ⊥) → IsCompleted H before now command text
+    → Passes before.shelf.files (plan_of H command) → StepsHold H before.shelf.files command
+unlinked_steps_hold H before now (Ask words) text calls completed passes = absurd (calls completed.links.accepted.replied.asks)
+unlinked_steps_hold H before now other text calls completed passes = passes
 
 -- what is known of the files decides each step, also over files that are the same
 same_known : (H : List ℕ → List ℕ) (command : Command) (files others : Files) → others ≡ files → IsKnown files (plan_of H command) → IsKnown others (plan_of H command)
@@ -117,14 +117,14 @@ module _ (H : List ℕ → List ℕ) (said : List (List ℕ)) (command : Command
   ]
 
   -- the first one is done
-  done_alike : a ≡ 0 → IsCommandServed H before.shelf.files command → EndAlike
+  done_alike : a ≡ 0 → StepsHold H before.shelf.files command → EndAlike
   done_alike zero served =
       elim (again.decided 0 (inr (
         command,
         is,
         inr (inl (record {
           known = same_known H command before.shelf.files since.shelf.files same known;
-          served = subst (λ (f : Files). IsCommandServed H f command) (sym same) served;
+          served = subst (λ (f : Files). StepsHold H f command) (sym same) served;
           is = refl;
         })),
       ))) [
@@ -144,7 +144,7 @@ module _ (H : List ℕ → List ℕ) (said : List (List ℕ)) (command : Command
 
   completed_alike : (text : List ℕ) → a ≡ 0 → IsCompleted H before now command text → EndAlike
   completed_alike text zero completed =
-      done_alike zero (unlinked_served H before now command text calls completed (does_passes (plan_of H command) before.shelf now.shelf text sound completed.plan.so))
+      done_alike zero (unlinked_steps_hold H before now command text calls completed (does_passes (plan_of H command) before.shelf now.shelf text sound completed.plan.so))
 
   end_alike : (end : End) → a ≡ status_of end → RunEnds H before now said end → EndAlike
   end_alike (Done former last) status ends =

@@ -23,11 +23,11 @@ ghost use Rattle.ats_plan.specs.Plan.{Refuses, Passes, IsKnown};
 ghost use Rattle.ats_top.specs.Commands.{plan_of};
 ghost use Rattle.ats_makers.specs.Commands.Migrate.{in_blocks};
 ghost use Rattle.ats_makers.specs.Commands.Give.{HasDocument};
-ghost use Rattle.ats_makers.specs.Commands.Grow.{HasKept};
+ghost use Rattle.ats_makers.specs.Commands.Grow.{WithdrawsNothing};
 ghost use Rattle.ats_console.specs.declared.stops.Stop.{Stop};
 ghost use Rattle.ats_console.specs.declared.stops.Stop.TheVariants.{Shelf as AtShelf};
 ghost use Rattle.ats_console.specs.Stops.{status_of_stop, text_of_stop};
-ghost use Rattle.ats_top.specs.Run.{Said, IsCommandServed, Ran, Excuse};
+ghost use Rattle.ats_top.specs.Run.{AreOfCommand, StepsHold, Ran, Excuse};
 ghost use Rattle.ats_top.specs.Outside.{Outside};
 ghost use Rattle.ats_top.specs.Serving.{Took};
 ghost use Rattle.ats_auditors.specs.Listed.{Listed, IsList, names_of};
@@ -41,32 +41,32 @@ use ats_hash::HashKind;
 
 /// If a file is the honest proof of a query over an archive, by either algorithm, `verify` serves it under the word of
 /// the archive's root, for the same query and number of rows.
-pub fn honest_proofs_are_served<H: HashKind>()
+pub fn commands_accept_honest_proofs<H: HashKind>()
     ensures { (archive : Archive) (asked : List (List ℕ × ℕ)) (rows : ℕ) (algorithm : Algorithm) (bytes : List ℕ)
         (files : Files) (root r query name : List ℕ)
         → IsProved H.hash archive asked rows algorithm bytes
         → IsFile files name (2 ^ 26) bytes → root_word root ≡ Some (root_of H.hash archive)
         → number_of r ≡ Some rows → IsRowCount rows → IsQueryOf query asked
-        → Said (verify_words root r query name) (IsCommandServed H.hash files) }
+        → AreOfCommand (verify_words root r query name) (StepsHold H.hash files) }
 {}
 
 /// If a file is the honest proof of a query over the archive of an index, by either algorithm, `audit` serves it for
 /// the same query and number of rows. Such a proof has no collision with the archive.
-pub fn honest_audits_are_served<H: HashKind>()
+pub fn audits_accept_honest_proofs<H: HashKind>()
     ensures { (archive : Archive) (files : Files) (words : AuditWords)
         (asked : List (List ℕ × ℕ)) (algorithm : Algorithm) (bytes : List ℕ)
         → HasIndex H.hash files words.index archive → IsRowCount words.r → IsQueryOf words.query asked
         → IsProved H.hash archive asked words.r algorithm bytes
-        → IsFile files words.proof (2 ^ 26) bytes → IsCommandServed H.hash files (Audit words) }
+        → IsFile files words.proof (2 ^ 26) bytes → StepsHold H.hash files (Audit words) }
 {}
 
 /// `sweep` serves a list in which each line asks for the honest proof of its query over the archive of the index, by
 /// either algorithm, if all the proofs are there within the limit. Each of them is found right.
-pub fn honest_sweeps_are_served<H: HashKind>()
+pub fn sweeps_accept_honest_proofs<H: HashKind>()
     ensures { (archive : Archive) (files : Files) (words : SweepWords) (listed : List Listed)
         → HasIndex H.hash files words.index archive → IsList files words.list listed
         → AreAllThere files (names_of listed) → All (IsHonestLine H.hash files archive) listed
-        → IsCommandServed H.hash files (Sweep words) }
+        → StepsHold H.hash files (Sweep words) }
 {}
 
 /// If a file holds the index bytes of an archive, which `build` stores, `root` serves it. TNRA `prove` serves it too,
@@ -74,82 +74,82 @@ pub fn honest_sweeps_are_served<H: HashKind>()
 /// serves it if the honest proof has no more bytes than a proof may have. `migrate` serves it too, `serve` comes to its
 /// links with it, `audit` serves it with the honest proof of a query, and `give` for each of its documents. The same holds
 /// for what `migrate` stores, since it is the index of an archive.
-pub fn built_indexes_are_served<H: HashKind>()
+pub fn commands_accept_built_indexes<H: HashKind>()
     ensures root { (archive : Archive) (bytes : List ℕ) (files : Files) (name : List ℕ)
         → IsSpelling H.hash bytes archive → Holds files name bytes
-        → Said (root_words name) (IsCommandServed H.hash files) }
+        → AreOfCommand (root_words name) (StepsHold H.hash files) }
     ensures prove { (archive : Archive) (bytes : List ℕ) (files : Files) (name : List ℕ)
         → IsSpelling H.hash bytes archive → Holds files name bytes
         → (rows : ℕ) (r query proof : List ℕ) → number_of r ≡ Some rows → AsksRanking rows query
-        → Said (prove_words name (codes "tnra") r query proof) (IsCommandServed H.hash files) }
+        → AreOfCommand (prove_words name (codes "tnra") r query proof) (StepsHold H.hash files) }
     ensures either { (archive : Archive) (bytes : List ℕ) (files : Files) (name : List ℕ)
         → IsSpelling H.hash bytes archive → Holds files name bytes
         → (algorithm : Algorithm) (asked : List (List ℕ × ℕ)) (rows : ℕ) (honest : List ℕ)
         → IsProved H.hash archive asked rows algorithm honest → length honest ≤ 2 ^ 26
         → (word r query proof : List ℕ) → algorithm_of word ≡ Some algorithm → number_of r ≡ Some rows
         → IsRowCount rows → IsQueryOf query asked
-        → Said (prove_words name word r query proof) (IsCommandServed H.hash files) }
+        → AreOfCommand (prove_words name word r query proof) (StepsHold H.hash files) }
     ensures migrate { (archive : Archive) (bytes : List ℕ) (files : Files) (name migrated : List ℕ)
         → IsSpelling H.hash bytes archive → Holds files name bytes
-        → Said (migrate_words name migrated) (IsCommandServed H.hash files) }
+        → AreOfCommand (migrate_words name migrated) (StepsHold H.hash files) }
     ensures serve { (archive : Archive) (bytes : List ℕ) (files : Files) (words : ServeWords)
         → IsSpelling H.hash bytes archive → Holds files words.index bytes → Passes files (plan_of H.hash (Serve words)) }
     ensures audit { (archive : Archive) (bytes : List ℕ) (files : Files) (words : AuditWords)
         (asked : List (List ℕ × ℕ)) (algorithm : Algorithm) (honest : List ℕ)
         → IsSpelling H.hash bytes archive → Holds files words.index bytes → IsRowCount words.r
         → IsQueryOf words.query asked → IsProved H.hash archive asked words.r algorithm honest
-        → IsFile files words.proof (2 ^ 26) honest → IsCommandServed H.hash files (Audit words) }
+        → IsFile files words.proof (2 ^ 26) honest → StepsHold H.hash files (Audit words) }
     ensures give { (archive : Archive) (bytes : List ℕ) (files : Files) (words : GiveWords)
         → IsSpelling H.hash bytes archive → Holds files words.index bytes → HasDocument archive words.doc
-        → IsCommandServed H.hash files (Give words) }
+        → StepsHold H.hash files (Give words) }
 {}
 
 /// If a file gives the text of a document of an archive, as `give` stores it, `fetch` serves it under the word of the
 /// archive's root, and `audit-fetch` against an index of the archive: it has no collision with the archive.
-pub fn given_texts_are_served<H: HashKind>()
+pub fn commands_accept_given_texts<H: HashKind>()
     ensures fetch { (archive : Archive) (doc : ℕ) (bytes : List ℕ) (files : Files) (root word name : List ℕ)
         → AreTexts archive.texts → HasDocument archive doc → IsTextProof bytes (given_text H.hash archive doc)
         → IsFile files name (2 ^ 21) bytes → root_word root ≡ Some (root_of H.hash archive)
-        → number_of word ≡ Some doc → Said (fetch_words root word name) (IsCommandServed H.hash files) }
+        → number_of word ≡ Some doc → AreOfCommand (fetch_words root word name) (StepsHold H.hash files) }
     ensures audit { (archive : Archive) (bytes : List ℕ) (files : Files) (words : AuditFetchWords)
         → HasIndex H.hash files words.index archive → HasDocument archive words.doc
         → IsTextProof bytes (given_text H.hash archive words.doc) → IsFile files words.file (2 ^ 21) bytes
-        → IsCommandServed H.hash files (AuditFetch words) }
+        → StepsHold H.hash files (AuditFetch words) }
 {}
 
 /// `prove-both` serves the index of an archive and a query if its proof of all documents with every term has no more bytes
-/// than a proof may have. A file that is this proof is served by `both` under the word of the archive's root, and by
+/// than a proof may have. A file that is this proof is accepted by `both` under the word of the archive's root, and by
 /// `audit-both` against an index of the archive: it has no collision with the archive.
-pub fn made_boths_are_served<H: HashKind>()
+pub fn commands_accept_made_boths<H: HashKind>()
     ensures prove { (archive : Archive) (asked : List (List ℕ × ℕ)) (bytes : List ℕ) (files : Files) (words : ProveBothWords)
         → HasIndex H.hash files words.index archive → IsQueryOf words.query asked
         → IsBothProof H.hash archive asked bytes → length bytes ≤ 2 ^ 26
-        → IsCommandServed H.hash files (ProveBoth words) }
+        → StepsHold H.hash files (ProveBoth words) }
     ensures both { (archive : Archive) (asked : List (List ℕ × ℕ)) (bytes : List ℕ) (files : Files) (root query name : List ℕ)
         → IsQueryOf query asked → IsBothProof H.hash archive asked bytes → IsFile files name (2 ^ 26) bytes
-        → root_word root ≡ Some (root_of H.hash archive) → Said (both_words root query name) (IsCommandServed H.hash files) }
+        → root_word root ≡ Some (root_of H.hash archive) → AreOfCommand (both_words root query name) (StepsHold H.hash files) }
     ensures audit { (archive : Archive) (asked : List (List ℕ × ℕ)) (bytes : List ℕ) (files : Files) (words : AuditBothWords)
         → HasIndex H.hash files words.index archive → IsQueryOf words.query asked
         → IsBothProof H.hash archive asked bytes → IsFile files words.proof (2 ^ 26) bytes
-        → IsCommandServed H.hash files (AuditBoth words) }
+        → StepsHold H.hash files (AuditBoth words) }
 {}
 
 /// If the texts of an archive are the first of another one's, `grow` serves their indexes. A file that shows this, as `grow`
-/// stores it, is served by `growth` under the words of the two roots, and by `audit-growth` against indexes of the two
+/// stores it, is accepted by `growth` under the words of the two roots, and by `audit-growth` against indexes of the two
 /// archives: it has no collision with them.
-pub fn shown_growths_are_served<H: HashKind>()
+pub fn commands_accept_shown_growths<H: HashKind>()
     ensures grow { (older newer : Archive) (files : Files) (words : GrowWords)
-        → HasIndex H.hash files words.old older → HasIndex H.hash files words.new newer → HasKept older newer
-        → IsCommandServed H.hash files (Grow words) }
+        → HasIndex H.hash files words.old older → HasIndex H.hash files words.new newer → WithdrawsNothing older newer
+        → StepsHold H.hash files (Grow words) }
     ensures growth { (older newer : Archive) (bytes : List ℕ) (files : Files) (old new name : List ℕ)
-        → AreTexts older.texts → AreTexts newer.texts → HasKept older newer
+        → AreTexts older.texts → AreTexts newer.texts → WithdrawsNothing older newer
         → IsGrowth bytes (honest H.hash older newer) → IsFile files name 4096 bytes
         → root_word old ≡ Some (root_of H.hash older) → root_word new ≡ Some (root_of H.hash newer)
-        → Said (growth_words old new name) (IsCommandServed H.hash files) }
+        → AreOfCommand (growth_words old new name) (StepsHold H.hash files) }
     ensures audit { (older newer : Archive) (bytes : List ℕ) (files : Files) (words : AuditGrowthWords)
-        → HasIndex H.hash files words.old older → HasIndex H.hash files words.new newer → HasKept older newer
+        → HasIndex H.hash files words.old older → HasIndex H.hash files words.new newer → WithdrawsNothing older newer
         → IsGrowth bytes (honest H.hash older newer) → IsFile files words.file 4096 bytes
-        → IsCommandServed H.hash files (AuditGrowth words) }
+        → StepsHold H.hash files (AuditGrowth words) }
 {}
 
 /// An index in which lists stand in blocks has the same bytes if it is migrated again.

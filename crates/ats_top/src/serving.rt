@@ -19,7 +19,7 @@ use ats_base::{Door, Failed, Shelf, Sink, write_all};
 use ats_console::{Stop, read};
 use ats_hash::Hash32;
 use ats_index::Index;
-use ats_wire::{ConnectionEnd, FrameRoom, Served, serve_connection};
+use ats_wire::{ConnectionEnd, FrameBuffer, Served, serve_connection};
 use std::alloc::{AllocError, Global};
 use std::thread::Threads;
 
@@ -61,7 +61,7 @@ fn session_line(alloc: Global, number: u32, served: Served) -> Result<String, Al
 fn serve_link<H: Hash32, D: Door>(
     alloc: Global,
     index: &Index<H>,
-    room: &mut FrameRoom,
+    room: &mut FrameBuffer,
     door: &mut D,
 ) -> Result<Served, Failed>
     requires { (D.told door.old).is_open ≡ true }
@@ -98,7 +98,7 @@ pub(crate) fn serve_links<H: Hash32, K: Sink, D: Door>(
     alloc: Global,
     index: &Index<H>,
     connections: u32,
-    room: &mut FrameRoom,
+    room: &mut FrameBuffer,
     out: &mut K,
     door: &mut D,
 ) -> Result<u32, Halt>
@@ -131,7 +131,7 @@ pub(crate) fn attend<H: Hash32, K: Sink, D: Door>(
     index: &Index<H>,
     connections: u32,
     address: &str,
-    room: &mut FrameRoom,
+    room: &mut FrameBuffer,
     out: &mut K,
     door: &mut D,
 ) -> Result<u32, Halt>
@@ -194,7 +194,7 @@ pub(crate) fn serve<H: Hash32 + Sync, R: Threads + Sync, S: Shelf, K: Sink, D: D
         Ok(loaded) => loaded,
         Err(stop) => return print_stop(alloc, out, stop),
     };
-    let Ok(mut room) = FrameRoom::new(alloc) else {
+    let Ok(mut room) = FrameBuffer::new(alloc) else {
         drop(loaded);
         return print_stop(alloc, out, Stop::Memory);
     };

@@ -4,7 +4,7 @@ use Rattle.ats_bound.specs.declared.bracket.Bracket.{Bracket}
 use Rattle.ats_bound.specs.declared.walk.Walk.{Walk}
 use Rattle.ats_bound.specs.Chosen.{IsChosen}
 use Rattle.ats_bound.specs.Cut.{threshold}
-use Rattle.ats_bound.specs.Front.{IsStage, Stage, shown_on}
+use Rattle.ats_bound.specs.Frontier.{IsStage, Stage, shown_on}
 use Rattle.ats_bound.specs.Lookup.{Table, looked_up}
 use Rattle.ats_bound.specs.Schedule.{AreBracketsBy, Bounding, WholeLane, shown}
 use Rattle.ats_bound.specs.Scored.{ScoredStanding, exactly}

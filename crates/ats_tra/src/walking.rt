@@ -4,7 +4,7 @@ ghost use Rattle.std.specs.Prelude.{◌≡◌, IfOk};
 ghost use Rattle.ats_bound.specs.Chosen.{IsChosen};
 ghost use Rattle.ats_bound.specs.Cut.{threshold};
 ghost use Rattle.ats_bound.specs.Lookup.{looked_up};
-ghost use Rattle.ats_bound.specs.Front.{shown_on};
+ghost use Rattle.ats_bound.specs.Frontier.{shown_on};
 ghost use Rattle.ats_bound.specs.Scored.{exactly};
 ghost use Rattle.ats_bound.specs.Settled.{IsSettled};
 ghost use Rattle.ats_bound.specs.Schedule.{AreBracketsBy, AreWholeLanes, IsFirstSettledBy, shown, whole_lanes};

@@ -17,7 +17,7 @@
 //! // link: to a server
 //! let bytes = ask_once(alloc, &mut link, Algorithm::Tnra, Top::new(1)?, "red hen")?;
 //! // link: to a client; answerer: whoever makes the proofs, by a type that is `Answerer`
-//! let mut room = FrameRoom::new(alloc)?;
+//! let mut room = FrameBuffer::new(alloc)?;
 //! let served = serve_connection(alloc, &mut link, &mut answerer, &mut room);
 //! let requests = served.requests; // 1, of a client that asks once
 //! ```
@@ -25,20 +25,20 @@
 
 mod asking;
 mod feeding;
+mod frame_buffer;
 mod laws;
 mod memory;
 mod receiving;
 mod reply;
 mod request;
-mod room;
 mod sending;
 mod serving;
 
 pub use asking::{AskFault, ask_once};
 pub use feeding::{Fed, ask_fed};
+pub use frame_buffer::FrameBuffer;
 pub use laws::{connections_end_in_one_way, replies_say_one_thing, requests_say_one_thing};
 pub use memory::OutOfMemory;
 pub use reply::{Answerer, Reply};
 pub use request::Request;
-pub use room::FrameRoom;
 pub use serving::{ConnectionEnd, Served, serve_connection};

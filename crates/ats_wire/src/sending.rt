@@ -7,8 +7,8 @@ ghost use Rattle.ats_wire.specs.Replies.{IsShort, reply_bytes};
 ghost use Rattle.ats_wire.specs.Moving.{Moves};
 ghost use Rattle.ats_wire.specs.Inner.Moving.{IsCutOff};
 
+use crate::frame_buffer::MAX_FRAME;
 use crate::reply::Reply;
-use crate::room::MAX_FRAME;
 use ats_base::{Failed, Link, send_all};
 use byteorder::{BigEndian, ByteOrder};
 

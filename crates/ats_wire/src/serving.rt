@@ -8,10 +8,10 @@ ghost use Rattle.ats_wire.specs.Connections.{IsFrameLength, is_fault, EndsReadin
 ghost use Rattle.ats_wire.specs.Inner.Connections.{IsReplied, IsCutReply};
 ghost use Rattle.ats_wire.specs.declared.reply.Reply.{Reply};
 
+use crate::frame_buffer::{FrameBuffer, MAX_FRAME};
 use crate::receiving::{Filling, fill};
 use crate::reply::{Answerer, Reply};
 use crate::request::Request;
-use crate::room::{FrameRoom, MAX_FRAME};
 use crate::sending::send_reply;
 use ats_base::{Failed, Link};
 use byteorder::{BigEndian, ByteOrder};
@@ -114,7 +114,7 @@ pub fn serve_connection<L: Link, A: Answerer>(
     alloc: Global,
     link: &mut L,
     answerer: &mut A,
-    room: &mut FrameRoom,
+    room: &mut FrameBuffer,
 ) -> Served
     ensures served { IsServed (A.gives answerer.old) (L.told link.old) (L.told link.new) result }
     ensures kept { (question : Question) (reply : Reply)

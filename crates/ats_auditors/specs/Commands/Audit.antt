@@ -6,7 +6,7 @@ use Rattle.ats_commit.specs.Root.{root_of}
 use Rattle.ats_client.specs.Bytes.{IsAcceptedBytes}
 use Rattle.ats_client.specs.Headline.{AreRight}
 use Rattle.ats_client.specs.Rows.{rows_of}
-use Rattle.ats_client.specs.Strings.{extract}
+use Rattle.ats_client.specs.Strings.{proof_collision}
 use Rattle.ats_plan.specs.Files.{Files}
 use Rattle.ats_plan.specs.Plan.{Plan, Finishes}
 use Rattle.ats_console.specs.Words.{AuditWords}
@@ -25,7 +25,7 @@ pub record IsAuditedRight (H : List ℕ → List ℕ) (files : Files) (words : A
   pub asked : IsQueryOf words.query query
   pub archive : Archive
   pub index : HasIndex H files words.index archive
-  pub clear : IsClear (2 ^ 26) (IsAcceptedBytes H (root_of H archive) query words.r) (extract H archive query) files words.proof
+  pub clear : IsClear (2 ^ 26) (IsAcceptedBytes H (root_of H archive) query words.r) (proof_collision H archive query) files words.proof
   pub right : AreRight archive.texts query words.r (rows_of query clear.checked.value)
   pub printed : text ≡ lines (rows_of query clear.checked.value)
 

@@ -3,7 +3,7 @@ use Rattle.std.specs.Prelude.{◌≡◌, ◌^◌, ℕ, List}
 use Rattle.ats_terms.specs.Query.{IsQueryOf}
 use Rattle.ats_commit.specs.Archive.{Archive}
 use Rattle.ats_commit.specs.Root.{root_of}
-use Rattle.ats_client.specs.Strings.{extract}
+use Rattle.ats_client.specs.Strings.{proof_collision}
 use Rattle.ats_conjunction.specs.Bytes.{AreAcceptedBytes}
 use Rattle.ats_conjunction.specs.Documents.{both, documents_shown}
 use Rattle.ats_plan.specs.Files.{Files}
@@ -24,7 +24,7 @@ pub record IsBothAudited (H : List ℕ → List ℕ) (files : Files) (words : Au
   pub asked : IsQueryOf words.query query
   pub archive : Archive
   pub index : HasIndex H files words.index archive
-  pub clear : IsClear (2 ^ 26) (AreAcceptedBytes H (root_of H archive) query) (extract H archive query) files words.proof
+  pub clear : IsClear (2 ^ 26) (AreAcceptedBytes H (root_of H archive) query) (proof_collision H archive query) files words.proof
   pub right : documents_shown clear.checked.value ≡ both archive.texts query
   pub printed : text ≡ lines_of_documents (documents_shown clear.checked.value)
 

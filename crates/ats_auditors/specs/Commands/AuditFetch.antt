@@ -3,7 +3,7 @@ use Rattle.std.specs.Prelude.{◌≡◌, ◌^◌, ℕ, List}
 use Rattle.ats_commit.specs.Archive.{Archive}
 use Rattle.ats_commit.specs.Root.{root_of}
 use Rattle.ats_inclusion.specs.Bytes.{IsAcceptedText}
-use Rattle.ats_inclusion.specs.Strings.{text_extract, IsOwnText}
+use Rattle.ats_inclusion.specs.Strings.{text_collision, IsOwnText}
 use Rattle.ats_plan.specs.Files.{Files}
 use Rattle.ats_plan.specs.Plan.{Plan, Finishes}
 use Rattle.ats_console.specs.Words.{AuditFetchWords}
@@ -19,7 +19,7 @@ use Rattle.ats_auditors.specs.Audited.{text_audit, audits_named}
 pub record IsFetchAudited (H : List ℕ → List ℕ) (files : Files) (words : AuditFetchWords) (text : List ℕ) : Type 0 where
   pub archive : Archive
   pub index : HasIndex H files words.index archive
-  pub clear : IsClear (2 ^ 21) (IsAcceptedText H (root_of H archive) words.doc) (text_extract H archive words.doc) files words.file
+  pub clear : IsClear (2 ^ 21) (IsAcceptedText H (root_of H archive) words.doc) (text_collision H archive words.doc) files words.file
   pub own : IsOwnText archive words.doc clear.checked.value
   pub printed : text ≡ printed_text clear.checked.value.text
 

@@ -4,7 +4,7 @@ use Rattle.ats_commit.specs.Archive.{Archive}
 use Rattle.ats_commit.specs.Root.{root_of}
 use Rattle.ats_consistency.specs.Bytes.{IsAcceptedGrowth}
 use Rattle.ats_consistency.specs.Headline.{HasGrown}
-use Rattle.ats_consistency.specs.Strings.{extract}
+use Rattle.ats_consistency.specs.Strings.{growth_collision}
 use Rattle.ats_plan.specs.Files.{Files}
 use Rattle.ats_plan.specs.Plan.{Plan, Finishes}
 use Rattle.ats_console.specs.Words.{AuditGrowthWords}
@@ -23,7 +23,7 @@ pub record IsGrowthAudited (H : List ℕ → List ℕ) (files : Files) (words : 
   pub newer : Archive
   pub old : HasIndex H files words.old older
   pub new : HasIndex H files words.new newer
-  pub clear : IsClear 4096 (IsAcceptedGrowth H (root_of H older) (root_of H newer)) (extract H older newer) files words.file
+  pub clear : IsClear 4096 (IsAcceptedGrowth H (root_of H older) (root_of H newer)) (growth_collision H older newer) files words.file
   pub grows : HasGrown older newer clear.checked.value.old.documents clear.checked.value.new.documents
   pub printed : text ≡ line_of_grown clear.checked.value.old.documents clear.checked.value.new.documents
 

@@ -19,8 +19,8 @@ abbrev pub IsListStop : (bytes : List ℕ) → Stop → Type 0
 IsListStop bytes stop = (number : ℕ) × IsBadLine (lines_of bytes) number × (stop ≡ Input (line_of_bad_line number))
 
 -- the bytes together are more than a sweep may gather
-abbrev pub PassesRoom : (bytes : ℕ) → Stop → Type 0
-PassesRoom bytes stop = (2 ^ 28 < bytes) × (stop ≡ Input (line_of_long_proofs bytes))
+abbrev pub PassesSweepLimit : (bytes : ℕ) → Stop → Type 0
+PassesSweepLimit bytes stop = (2 ^ 28 < bytes) × (stop ≡ Input (line_of_long_proofs bytes))
 
 -- the bytes of a proof, or that it has more than a proof may have
 abbrev pub reads_gathered : (name : List ℕ) → (Gathered → Plan Stop) → Plan Stop
@@ -30,7 +30,7 @@ reads_gathered name rest = Reads name (2 ^ 26) (rest Long) (λ bytes. rest (Whol
 abbrev pub gathers : (got : List Gathered) → (names : List (List ℕ)) → (List Gathered → Plan Stop) → Plan Stop
 gathers got [] rest = rest got
 gathers got (name ∷ names) rest = reads_gathered name (λ proof.
-    Tries (total (got ++ proof ∷ []) ≤ 2 ^ 28) (PassesRoom (total (got ++ proof ∷ [])))
+    Tries (total (got ++ proof ∷ []) ≤ 2 ^ 28) (PassesSweepLimit (total (got ++ proof ∷ [])))
     (gathers (got ++ proof ∷ []) names rest))
 
 -- no finding is a collision, and then none refuses a proof; if one does, all lines are printed

@@ -5,7 +5,7 @@ use Rattle.std.specs.declared.option.Option.{Option}
 use Rattle.std.specs.declared.option.Option.TheVariants.{Some}
 use Rattle.ats_bound.specs.declared.known.Met.{Met}
 use Rattle.ats_bound.specs.Cut.{ShownLane, lo_of, names}
-use Rattle.ats_bound.specs.Inner.Front.{named_by}
+use Rattle.ats_bound.specs.Inner.Frontier.{named_by}
 
 -- the document in a slot, with what is known of it
 abbrev pub met_at : List Met → ℕ → Met

@@ -4,7 +4,7 @@ use Rattle.ats_bound.specs.declared.bracket.Bracket.{Bracket}
 use Rattle.ats_bound.specs.declared.known.Met.{Met}
 use Rattle.ats_bound.specs.Inner.Best.{AreBest}
 use Rattle.ats_bound.specs.Cut.{ShownLane, bracket}
-use Rattle.ats_bound.specs.Front.{IsStage, Stage, shown_on}
+use Rattle.ats_bound.specs.Frontier.{IsStage, Stage, shown_on}
 use Rattle.ats_bound.specs.Inner.Known.{AreKnown, lows, met_at}
 
 -- `met` is what is known of each met document, and `best` the largest of their lower bounds

@@ -2,12 +2,12 @@
 use Rattle.std.specs.Prelude.{◌≡◌, ℕ, Bool, true, false, if◌then◌else◌}
 use Rattle.ats_grammar.specs.declared.fault.ShapeKind.{ShapeKind}
 use Rattle.ats_grammar.specs.declared.fault.ShapeKind.TheVariants.{Cut}
-use Rattle.ats_grammar.specs.declared.next.Next.{Next}
-use Rattle.ats_grammar.specs.declared.next.Next.TheVariants as next
-use Rattle.ats_grammar.specs.declared.state.DictPart.TheVariants as dict
-use Rattle.ats_grammar.specs.declared.state.TermsPart.TheVariants as terms
-use Rattle.ats_grammar.specs.declared.state.Part.{Part}
-use Rattle.ats_grammar.specs.declared.state.Part.TheVariants.{Dict, Terms}
+use Rattle.ats_grammar.specs.declared.field_kinds.Next.{Next}
+use Rattle.ats_grammar.specs.declared.field_kinds.Next.TheVariants as next
+use Rattle.ats_grammar.specs.declared.reader_state.DictPart.TheVariants as dict
+use Rattle.ats_grammar.specs.declared.reader_state.TermsPart.TheVariants as terms
+use Rattle.ats_grammar.specs.declared.reader_state.Part.{Part}
+use Rattle.ats_grammar.specs.declared.reader_state.Part.TheVariants.{Dict, Terms}
 
 -- a term may have no bytes; no other field does
 abbrev pub is_term : Part → Bool

@@ -1,8 +1,8 @@
 -- Beside specs/Reading: what only the functions of this room promise one another.
 use Rattle.std.specs.Prelude.{◌≡◌, ℕ, List, ◌++◌, length}
 use Rattle.ats_grammar.specs.declared.fault.ShapeKind.{ShapeKind}
-use Rattle.ats_grammar.specs.declared.next.Next.{Next}
-use Rattle.ats_grammar.specs.declared.next.Next.TheVariants as next
+use Rattle.ats_grammar.specs.declared.field_kinds.Next.{Next}
+use Rattle.ats_grammar.specs.declared.field_kinds.Next.TheVariants as next
 use Rattle.ats_grammar.specs.Front.{IsField, IsOpen, kind_of}
 use Rattle.ats_grammar.specs.Reading.{IsNumberOf}
 

@@ -15,8 +15,8 @@ use Rattle.ats_console.specs.declared.stops.Stop.TheVariants.{Input}
 use Rattle.ats_makers.specs.Lines.{line_of_growth_size, line_of_differing}
 
 -- the old texts are the first of the new ones
-abbrev pub HasKept : (older newer : Archive) → Type 0
-HasKept older newer = IsPrefix older.texts newer.texts
+abbrev pub WithdrawsNothing : (older newer : Archive) → Type 0
+WithdrawsNothing older newer = IsPrefix older.texts newer.texts
 
 -- they are not, and the line names the first old document that the new archive does not have with the same text
 abbrev pub Withdraws : (older newer : Archive) → Stop → Type 0
@@ -30,7 +30,7 @@ pub record IsGrowthStored (H : List ℕ → List ℕ) (before now : Files) (word
   pub bytes : List ℕ
   pub old : HasIndex H before words.old older
   pub new : HasIndex H before words.new newer
-  pub kept : HasKept older newer
+  pub kept : WithdrawsNothing older newer
   pub shown : IsGrowth bytes (honest H older newer)
   pub stored : Puts before now words.file bytes
   pub printed : text ≡ line_of_growth_size (length bytes)
@@ -39,6 +39,6 @@ abbrev pub grow_plan : (List ℕ → List ℕ) → GrowWords → Plan Stop
 grow_plan H words =
     reads_index H words.old (λ older.
     reads_index H words.new (λ newer.
-    Tries (HasKept older newer) (Withdraws older newer)
+    Tries (WithdrawsNothing older newer) (Withdraws older newer)
     (Makes (List ℕ) (λ bytes. IsGrowth bytes (honest H older newer)) (λ bytes.
     Stores words.file bytes (λ before now text. IsGrowthStored H before now words text)))))

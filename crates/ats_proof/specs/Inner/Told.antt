@@ -7,7 +7,7 @@ use Rattle.ats_proof.specs.Value.{IsProof, present_in}
 use Rattle.ats_proof.specs.Reading.{id_size, is_tra, terms_in, slots_in, met_in, dict_digests_place, slots_place, met_place, lists_place, docs_place, doc_digests_place, sections_place, answer_place, proof_in}
 
 -- the bytes have room for their parts
-pub record HasRoom (bytes : List ℕ) : Type 0 where
+pub record HasSpace (bytes : List ℕ) : Type 0 where
   pub few : length bytes ≤ 2 ^ 26
   pub docs : docs_place bytes ≤ length bytes
   pub answer : answer_place (is_tra bytes) bytes + counted_size 2 id_size (drop (answer_place (is_tra bytes) bytes) bytes) ≤ length bytes
@@ -30,7 +30,7 @@ pub record IsEnded (bytes : List ℕ) (tra : Bool) (ended : Ended) : Type 0 wher
 
 -- all of these, of bytes that spell a proof
 pub record IsPlaced (bytes : List ℕ) (tra : Bool) (begun : Begun) (ended : Ended) (docs : ℕ) : Type 0 where
-  pub room : HasRoom bytes
+  pub room : HasSpace bytes
   pub same : tra ≡ is_tra bytes
   pub first : IsBegun bytes begun
   pub rest : IsEnded bytes tra ended

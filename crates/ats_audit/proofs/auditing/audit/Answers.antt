@@ -6,7 +6,7 @@ use Rattle.ats_proof.specs.Value.{Proof}
 use Rattle.ats_client.specs.Accepts.{Accepts}
 use Rattle.ats_client.specs.Headline.{AreRight, IsTopOrCollides}
 use Rattle.ats_client.specs.Sections.{difference_of}
-use Rattle.ats_client.specs.Strings.{extract}
+use Rattle.ats_client.specs.Strings.{proof_collision}
 use Rattle.ats_audit.proofs.Told.{right_rows}
 use Rattle.ats_audit.proofs.auditing.audit.Goals as goal
 
@@ -17,7 +17,7 @@ returns-in-None g c =
     let archive : Archive = c.args.index.now in
     let query = c.args.query.now in
     let proof : Proof = c.in-Ok.proof in
-    let none : extract H archive query proof ≡ None = sym c.in_ok-clash.ensures ∙ ap (option_map difference_of) c.in-None.is in
+    let none : proof_collision H archive query proof ≡ None = sym c.in_ok-clash.ensures ∙ ap (option_map difference_of) c.in-None.is in
     let headline : IsTopOrCollides H (root_of H archive) query c.args.top proof =
     subst (λ (root : List ℕ). IsTopOrCollides H root query c.args.top proof) c.root-root.ensures c.in-Ok-check_rows.ensures.headline in
     record {

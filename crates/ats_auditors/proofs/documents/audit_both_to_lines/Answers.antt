@@ -1,5 +1,5 @@
 use Rattle.std.proofs.Common.{ap, ◌∙◌}
-use Rattle.ats_client.proofs.Public.{extract-collides}
+use Rattle.ats_client.proofs.Public.{collision-collides}
 use Rattle.ats_console.specs.declared.stops.Stop.TheVariants.{Collision}
 use Rattle.ats_auditors.specs.Audited.{both_audit}
 use Rattle.ats_auditors.proofs.AuditEnds.{collision_stops}
@@ -11,4 +11,4 @@ returns-in_ok-lines-in-Collision-clause-stop g c =
     let found = rw c.in-Collision.is at c.in-Ok.ensures in
     let lines = rw (c.bytes.ensures.value, c.bytes-in-Collision.ensures.value) at c.in_ok-lines-in-Collision.ensures in
     collision_stops H (both_audit H c.args.index.now c.args.query.now) c.args.bytes.now found.proof _ _ found.accepted found.found
-    (extract-collides H c.args.index.now c.args.query.now found.proof _ found.found) (ap Collision (c.made.ensures ∙ lines))
+    (collision-collides H c.args.index.now c.args.query.now found.proof _ found.found) (ap Collision (c.made.ensures ∙ lines))

@@ -1,5 +1,5 @@
 use Rattle.std.proofs.Common.{ap, ◌∙◌}
-use Rattle.ats_growth.proofs.Public.{extract-collides}
+use Rattle.ats_growth.proofs.Public.{collision-collides}
 use Rattle.ats_console.specs.declared.stops.Stop.TheVariants.{Collision}
 use Rattle.ats_auditors.specs.Audited.{growth_audit}
 use Rattle.ats_auditors.proofs.AuditEnds.{collision_stops}
@@ -11,4 +11,4 @@ returns-in_ok-lines-in-Collision-clause-stop g c =
     let found = rw c.in-Collision.is at c.in-Ok.ensures.verdict in
     let lines = rw (c.as_slice.ensures, c.as_slice-in-Collision.ensures) at c.in_ok-lines-in-Collision.ensures in
     collision_stops H (growth_audit H c.args.older.now c.args.newer.now) c.args.bytes.now found.growth _ _ found.accepted found.found
-    (extract-collides H c.args.older.now c.args.newer.now found.growth _ found.found) (ap Collision (c.made.ensures ∙ lines))
+    (collision-collides H c.args.older.now c.args.newer.now found.growth _ found.found) (ap Collision (c.made.ensures ∙ lines))

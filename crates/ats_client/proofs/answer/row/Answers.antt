@@ -13,7 +13,7 @@ use Rattle.ats_client.proofs.Bracketing.{own_doc}
 use Rattle.ats_client.specs.Inner.Bounds.{upper}
 use Rattle.ats_client.specs.Groups.{met_at}
 use Rattle.ats_client.specs.Presented.{lanes_of}
-use Rattle.ats_client.specs.Rows.{IsLeft, row_of}
+use Rattle.ats_client.specs.Rows.{IsLeftByCheck, row_of}
 use Rattle.ats_client.proofs.Bounding.{held_within, upper_is}
 use Rattle.ats_client.proofs.TermsLeft.{at_place}
 use Rattle.ats_client.proofs.answer.row.Goals as goal
@@ -28,7 +28,7 @@ pub upper-requires-clause-held : goal.upper-requires-clause-held
 upper-requires-clause-held c =
     let proof : Proof = c.args.proof.now in
     let query : List (List ℕ × ℕ) = c.requires.left.0 in
-    let left : IsLeft query proof c.args.work.now.marks c.args.threshold = c.requires.left.1 in
+    let left : IsLeftByCheck query proof c.args.work.now.marks c.args.threshold = c.requires.left.1 in
     let index : ℕ = c.answer-index.result in
     let inside : index < length proof.met = at_place (λ (x : ℕ). x < length proof.met) proof.answer c.args.i index left.inside c.answer-index.ensures.row in
     rw c.get-mark.ensures.mark (held_within (bounds_of proof) (lanes_of query proof) proof.met c.args.work.now.marks c.args.threshold left.each left.rests index inside)
@@ -37,7 +37,7 @@ pub upper-requires-clause-small : goal.upper-requires-clause-small
 upper-requires-clause-small c =
     let proof : Proof = c.args.proof.now in
     let query : List (List ℕ × ℕ) = c.requires.left.0 in
-    let left : IsLeft query proof c.args.work.now.marks c.args.threshold = c.requires.left.1 in
+    let left : IsLeftByCheck query proof c.args.work.now.marks c.args.threshold = c.requires.left.1 in
     let index : ℕ = c.answer-index.result in
     let inside : index < length proof.met = at_place (λ (x : ℕ). x < length proof.met) proof.answer c.args.i index left.inside c.answer-index.ensures.row in
     omega (arith, ap (λ (m : Mark). m.lo) c.get-mark.ensures.mark, (left.each.each index inside).small, left.small)

@@ -1,5 +1,5 @@
 use Rattle.std.proofs.Common.{arith}
-use Rattle.ats_growth.proofs.Finding.{same-number, compared-shared, kept-shared}
+use Rattle.ats_growth.proofs.Finding.{same-number, compared-shared, prefix-shared}
 use Rattle.ats_growth.proofs.auditing.compare_shared.Goals as goal
 
 pub compare_ranges-requires-clause-within : goal.compare_ranges-requires-clause-within
@@ -18,7 +18,7 @@ returns-in_default g c =
     c.collection-older.result.now c.documents-m.result c.collection-older.ensures.same c.documents-m.ensures.value in
     let n = same-number g.H.HashKind.hash g.H.HashKind.sized c.args.new.now p.new_format p.new c.collection-newer.ensures.texts c.is_in_range.ensures.new c.requires.new_header
     c.collection-newer.result.now c.documents-n.result c.collection-newer.ensures.same c.documents-n.ensures.value in
-    kept-shared g.H.HashKind.hash c.args.old.now c.args.new.now p c.collection-older.result.now c.collection-newer.result.now c.documents-m.result c.documents-n.result
+    prefix-shared g.H.HashKind.hash c.args.old.now c.args.new.now p c.collection-older.result.now c.collection-newer.result.now c.documents-m.result c.documents-n.result
     c.collection-older.ensures.same c.collection-newer.ensures.same m n c.documents-m.ensures.value c.documents-n.ensures.value c.documents-m.ensures.some
     c.in_default.ensures.none
 

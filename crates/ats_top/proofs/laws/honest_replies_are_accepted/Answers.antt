@@ -1,6 +1,6 @@
 use Rattle.std.proofs.Common.{ℕ, List, refl, sym, subst, inl}
 use Rattle.ats_client.specs.Bytes.{IsAcceptedBytes}
-use Rattle.ats_top.proofs.HonestServed.{bytes_accepted}
+use Rattle.ats_top.proofs.HonestAccepted.{bytes_accepted}
 use Rattle.ats_top.proofs.laws.honest_replies_are_accepted.Goals as goal
 
 pub returns : goal.returns

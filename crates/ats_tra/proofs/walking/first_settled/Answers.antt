@@ -1,7 +1,7 @@
 use Rattle.std.proofs.Common.{◌≡◌, ℕ, List, true, sym, ap, subst, ◌∙◌}
 use Rattle.ats_bound.specs.declared.walk.Walk.{Walk}
 use Rattle.ats_bound.specs.Cut.{threshold}
-use Rattle.ats_bound.specs.Front.{Stage}
+use Rattle.ats_bound.specs.Frontier.{Stage}
 use Rattle.ats_bound.specs.Lookup.{Table, looked_up}
 use Rattle.ats_bound.specs.Schedule.{AreBracketsBy, Bounding, CanSettleBy, IsNextLane, WholeLane, shown, whole_lanes, whole_lane}
 use Rattle.ats_bound.specs.Scored.{AreFirstScores, ScoredStanding}

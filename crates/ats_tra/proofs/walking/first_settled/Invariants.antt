@@ -1,6 +1,6 @@
 use Rattle.std.proofs.Common.{◌≡◌}
 use Rattle.std.specs.List.{sum_by}
-use Rattle.ats_bound.specs.Front.{shown_on}
+use Rattle.ats_bound.specs.Frontier.{shown_on}
 use Rattle.ats_bound.specs.Lookup.{looked_up}
 use Rattle.ats_bound.specs.Schedule.{AreBracketsBy, whole_lanes}
 use Rattle.ats_bound.specs.Inner.Stand.{IsReached}

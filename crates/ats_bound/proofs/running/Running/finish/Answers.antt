@@ -3,7 +3,7 @@ use Rattle.ats_bound.specs.declared.bracket.Bracket.{Bracket}
 use Rattle.ats_bound.specs.declared.walk.Walk.{Walk}
 use Rattle.ats_bound.specs.Chosen.{IsChosen}
 use Rattle.ats_bound.specs.Cut.{bracket}
-use Rattle.ats_bound.specs.Front.{Stage, shown_on}
+use Rattle.ats_bound.specs.Frontier.{Stage, shown_on}
 use Rattle.ats_bound.specs.Running.{Standing}
 use Rattle.ats_bound.specs.Stand.{IsStand}
 use Rattle.ats_bound.proofs.Chain.{chosen_are_picks, chosen_is_settled}
@@ -16,7 +16,7 @@ choose-requires-clause-distinct c = rw c.as_slice.ensures (risen_are_distinct c.
 
 pub returns : goal.returns
 returns c =
-    let stage : Stage = c.self.inside.front in
+    let stage : Stage = c.self.inside.frontier in
     let brackets : List Bracket = c.in_ok-brackets.brackets in
     let picks : List ℕ = c.in_ok-picks.picks in
     let walk : Walk = record { cut = c.cut.result; brackets = brackets; picks = picks; threshold = c.threshold-threshold.result } in

@@ -1,6 +1,6 @@
 use Rattle.std.proofs.Common.{◌≤◌, ◌++◌, length-append, inr, subst, arith}
 use Rattle.ats_grammar.specs.declared.feeder.Place.{Place}
-use Rattle.ats_grammar.specs.Inside.{came_in}
+use Rattle.ats_grammar.specs.FeederPosition.{came_in}
 use Rattle.ats_grammar.proofs.Pieces.{stand_of, still_refused, at_more, only_cut, wrong_is_first}
 use Rattle.ats_grammar.proofs.feeder.Feeder.feed.Goals as goal
 

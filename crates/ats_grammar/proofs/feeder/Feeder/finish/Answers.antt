@@ -1,6 +1,6 @@
 use Rattle.std.proofs.Common.{◌∙◌, ◌≤◌, refl, subst, arith}
 use Rattle.ats_grammar.specs.declared.feeder.Place.{Place}
-use Rattle.ats_grammar.specs.Inside.{came_in}
+use Rattle.ats_grammar.specs.FeederPosition.{came_in}
 use Rattle.ats_grammar.proofs.Pieces.{stand_of, cut_off}
 use Rattle.ats_grammar.proofs.feeder.Feeder.finish.Goals as goal
 

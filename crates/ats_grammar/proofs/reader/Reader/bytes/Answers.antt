@@ -1,5 +1,5 @@
 use Rattle.std.proofs.lemmas.Result.{err_from_is_err_and}
-use Rattle.ats_grammar.specs.declared.next.Next.TheVariants as next
+use Rattle.ats_grammar.specs.declared.field_kinds.Next.TheVariants as next
 use Rattle.ats_grammar.specs.Table.{Bytes}
 use Rattle.ats_grammar.specs.Inner.Reading.{IsTaken, IsRefused}
 use Rattle.ats_grammar.proofs.Positions.{bytes_passes, has_fault}

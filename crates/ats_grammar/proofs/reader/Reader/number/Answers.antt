@@ -1,6 +1,6 @@
 use Rattle.std.specs.Prelude.{◌≡◌, ◌+◌, length, IfOk, IfErr}
 use Rattle.std.proofs.lemmas.Result.{IfOk-weaker, IfErr-weaker}
-use Rattle.ats_grammar.specs.declared.next.Next.TheVariants as next
+use Rattle.ats_grammar.specs.declared.field_kinds.Next.TheVariants as next
 use Rattle.ats_grammar.specs.Table.{Number}
 use Rattle.ats_grammar.specs.Inner.Reading.{IsTaken, IsRefused}
 use Rattle.ats_grammar.proofs.Positions.{number_passes, number_parts, has_fault}
