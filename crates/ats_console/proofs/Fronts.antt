@@ -220,8 +220,8 @@ pub passed_on : {X : Type 0} (P : Stop → Type 0) (result : Result X Stop) (tol
 passed_on {X} P result told stop is same cause = subst (λ (r : Result X Stop). IfErr r P) (sym is) (subst P (sym same) cause)
 
 -- the exit of a `?` keeps its cause
-pub passed : {X : Type 0} (P : Stop → Type 0) (result : Result X Stop) (stop : Stop) → IsErrAnd result (λ told. told ≡ stop) → P stop → IfErr result P
-passed P result stop is cause = let told = err_from_is_err_and result is in passed_on P result told.0 stop told.1 told.2 cause
+pub passed : {X : Type 0} (P : Stop → Type 0) {stop : Stop} (result : Result X Stop) → IsErrAnd result (λ (told : Stop). told ≡ stop) → P stop → IfErr result P
+passed P {stop = stop} result is cause = let told = err_from_is_err_and result is in passed_on P result told.0 stop told.1 told.2 cause
 
 module _ {plan : Plan Stop} {before mid : ShelfTold} {stop : Stop} where
   -- memory ran out, whatever comes next

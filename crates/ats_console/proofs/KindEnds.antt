@@ -1,8 +1,6 @@
 -- How a command stops at the check of a file, and how it is done after it.
 use Rattle.std.proofs.Common.{◌≡◌, ◌∙◌, ℕ, List, [], Result, Ok, Err, sym, subst}
-use Rattle.std.specs.Prelude.{IfOk, IfErr}
-use Rattle.std.specs.Result.{IsErrAnd}
-use Rattle.std.proofs.lemmas.Result.{err_from_is_err_and}
+use Rattle.std.specs.Prelude.{IfOk}
 use Rattle.ats_base.specs.Outside.{ShelfTold}
 use Rattle.ats_commit.specs.Archive.{Archive}
 use Rattle.ats_commit.specs.Own.{AreTexts}
@@ -15,11 +13,7 @@ use Rattle.ats_console.specs.Read.{HasIndex}
 use Rattle.ats_console.specs.Steps.{reads_index, comes_to}
 use Rattle.ats_console.specs.declared.stops.Stop.{Stop}
 use Rattle.ats_console.specs.declared.stops.Stop.TheVariants.{Shelf, Memory}
-use Rattle.ats_console.proofs.Fronts.{has_bytes, same_bytes, has_index, same_index, passed_on}
-
--- what a `?` passes on keeps its cause
-pub passed : {X : Type 0} (P : Stop → Type 0) {stop : Stop} (result : Result X Stop) → IsErrAnd result (λ (told : Stop). told ≡ stop) → P stop → IfErr result P
-passed P {stop = stop} result is cause = let told = err_from_is_err_and result is in passed_on P result told.0 stop told.1 told.2 cause
+use Rattle.ats_console.proofs.Fronts.{has_bytes, same_bytes, has_index, same_index}
 
 -- a file that was read is still there
 pub still_bytes : {before now : ShelfTold} {name : List ℕ} {limit : ℕ} {fault : Stop} {bytes : List ℕ}

@@ -59,8 +59,6 @@ pub use Rattle.ats_console.proofs.OneProof.{honest_short, one_length}
 pub use Rattle.ats_console.proofs.OneProof.{one_made, made_short, length_exact}
 -- a file of each kind is accepted or rejected in one way, and its check keeps that a plan goes one way
 pub use Rattle.ats_console.proofs.OneKind.{IsKindOne, text_one, both_one, growth_one, named_sound}
--- what a `?` passes on keeps its cause
-pub use Rattle.ats_console.proofs.KindEnds.{passed}
 -- a file or an index that was read is still there
 pub use Rattle.ats_console.proofs.KindEnds.{still_bytes, still_index}
 -- bytes that were accepted end a command

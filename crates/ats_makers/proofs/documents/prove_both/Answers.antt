@@ -7,15 +7,15 @@ use Rattle.ats_makers.proofs.documents.prove_both.Goals as goal
 
 pub returns-in_err-asked-clause-stop : goal.returns-in_err-asked-clause-stop
 returns-in_err-asked-clause-stop g c =
-    passed _ _ _ c.from_residual.ensures.1 (text_stops leads_none c.in_err-asked.field-0.0 c.in_err-asked.ensures.fault)
+    passed _ _ c.from_residual.ensures.1 (text_stops leads_none c.in_err-asked.field-0.0 c.in_err-asked.ensures.fault)
 
 pub returns-in_err-loaded-clause-stop : goal.returns-in_err-loaded-clause-stop
 returns-in_err-loaded-clause-stop g c =
-    passed _ _ _ c.from_residual-in_err-loaded.ensures.1 ((leads_query leads_none c.in_ok-asked.ensures.ok).stops _ _ (at_index c.in_err-loaded.ensures.stop))
+    passed _ _ c.from_residual-in_err-loaded.ensures.1 ((leads_query leads_none c.in_ok-asked.ensures.ok).stops _ _ (at_index c.in_err-loaded.ensures.stop))
 
 pub returns-in_err-bytes-clause-stop : goal.returns-in_err-bytes-clause-stop
 returns-in_err-bytes-clause-stop g c =
-    passed _ _ _ c.from_residual-in_err-bytes.ensures.1
+    passed _ _ c.from_residual-in_err-bytes.ensures.1
     (try_stops (leads_index (leads_query leads_none c.in_ok-asked.ensures.ok) c.in_ok-loaded.ensures.ok) c.in_err-bytes.ensures.stop)
 
 pub returns-clause-ok : goal.returns-clause-ok

@@ -6,14 +6,14 @@ use Rattle.ats_makers.proofs.Stored.{stored, not_stored}
 use Rattle.ats_makers.proofs.growths.grow.Goals as goal
 
 pub returns-in_err-older-clause-stop : goal.returns-in_err-older-clause-stop
-returns-in_err-older-clause-stop g c = passed _ _ _ c.from_residual.ensures.1 (at_index c.in_err-older.ensures.stop)
+returns-in_err-older-clause-stop g c = passed _ _ c.from_residual.ensures.1 (at_index c.in_err-older.ensures.stop)
 
 pub returns-in-Err-clause-stop : goal.returns-in-Err-clause-stop
 returns-in-Err-clause-stop g c = (leads_index leads_none c.in_ok-older.ensures.ok).stops _ _ (at_index c.in-Err.ensures.stop)
 
 pub returns-in_err-bytes-clause-stop : goal.returns-in_err-bytes-clause-stop
 returns-in_err-bytes-clause-stop g c =
-    passed _ _ _ c.from_residual-in_err-bytes.ensures.1
+    passed _ _ c.from_residual-in_err-bytes.ensures.1
     (try_stops (leads_index (leads_index leads_none c.in_ok-older.ensures.ok) c.in-Ok.ensures.ok) c.in_err-bytes.ensures.stop)
 
 pub returns-clause-ok : goal.returns-clause-ok

@@ -5,7 +5,7 @@ use Rattle.ats_makers.proofs.Stored.{stored, not_stored, published_as}
 use Rattle.ats_makers.proofs.indexing.migrate.Goals as goal
 
 pub returns-in_err-loaded-clause-stop : goal.returns-in_err-loaded-clause-stop
-returns-in_err-loaded-clause-stop g c = passed _ _ _ c.from_residual.ensures.1 (at_index c.in_err-loaded.ensures.stop)
+returns-in_err-loaded-clause-stop g c = passed _ _ c.from_residual.ensures.1 (at_index c.in_err-loaded.ensures.stop)
 
 pub returns-clause-ok : goal.returns-clause-ok
 returns-clause-ok g c =

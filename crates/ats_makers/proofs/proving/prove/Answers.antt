@@ -6,12 +6,12 @@ use Rattle.ats_makers.proofs.proving.prove.Goals as goal
 
 pub returns-in_err-loaded-clause-stop : goal.returns-in_err-loaded-clause-stop
 returns-in_err-loaded-clause-stop g c =
-    passed _ _ _ c.from_residual-in_err-loaded.ensures.1
+    passed _ _ c.from_residual-in_err-loaded.ensures.1
     ((leads_ranking leads_none (rows_of_range c.args.r c.in_ok-rows.ensures.within) c.in_ok-asked.ensures.ok).stops _ _ (at_index c.in_err-loaded.ensures.stop))
 
 pub returns-in_err-bytes-clause-stop : goal.returns-in_err-bytes-clause-stop
 returns-in_err-bytes-clause-stop g c =
-    passed _ _ _ c.from_residual-in_err-bytes.ensures.1
+    passed _ _ c.from_residual-in_err-bytes.ensures.1
     (try_stops (leads_index (leads_ranking leads_none (rows_of_range c.args.r c.in_ok-rows.ensures.within) c.in_ok-asked.ensures.ok) c.in_ok-loaded.ensures.ok) (rw c.in_ok-rows.ensures.ok at c.in_err-bytes.ensures.stop))
 
 pub returns-clause-ok : goal.returns-clause-ok

@@ -5,11 +5,11 @@ use Rattle.ats_makers.proofs.Stored.{stored, not_stored}
 use Rattle.ats_makers.proofs.texts.give.Goals as goal
 
 pub returns-in_err-loaded-clause-stop : goal.returns-in_err-loaded-clause-stop
-returns-in_err-loaded-clause-stop g c = passed _ _ _ c.from_residual.ensures.1 (at_index c.in_err-loaded.ensures.stop)
+returns-in_err-loaded-clause-stop g c = passed _ _ c.from_residual.ensures.1 (at_index c.in_err-loaded.ensures.stop)
 
 pub returns-in_err-bytes-clause-stop : goal.returns-in_err-bytes-clause-stop
 returns-in_err-bytes-clause-stop g c =
-    passed _ _ _ c.from_residual-in_err-bytes.ensures.1 (try_stops (leads_index leads_none c.in_ok-loaded.ensures.ok) c.in_err-bytes.ensures.stop)
+    passed _ _ c.from_residual-in_err-bytes.ensures.1 (try_stops (leads_index leads_none c.in_ok-loaded.ensures.ok) c.in_err-bytes.ensures.stop)
 
 pub returns-clause-ok : goal.returns-clause-ok
 returns-clause-ok g c =
