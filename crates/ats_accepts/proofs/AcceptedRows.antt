@@ -105,5 +105,5 @@ module _ (H : List ℕ → List ℕ) (archive : Archive) (query : List (List ℕ
   -- all rules hold of it
   pub honest_accepted : Accepts H (root_of H archive) query r proof
   honest_accepted =
-      let kept = section_rules_hold H archive query algorithm honest.cut documents proof is_cut are_met honest.shows some in
-      accepts_each H (root_of H archive) query r proof kept.0 kept.1.0 kept.1.1.0 kept.1.1.1.0 kept.1.1.1.1.0 kept.1.1.1.1.1.0 kept.1.1.1.1.1.1.0 honest_rows honest_settled
+      let hold = section_rules_hold H archive query algorithm honest.cut documents proof is_cut are_met honest.shows some in
+      accepts_each H (root_of H archive) query r proof hold.0 hold.1.0 hold.1.1.0 hold.1.1.1.0 hold.1.1.1.1.0 hold.1.1.1.1.1.0 hold.1.1.1.1.1.1.0 honest_rows honest_settled

@@ -10,7 +10,7 @@ use Rattle.ats_auditors.specs.Gathered.{content, size, total}
 use Rattle.ats_console.specs.Stops.{line_of_long_proofs}
 use Rattle.ats_console.specs.Steps.{no_more, comes_to}
 use Rattle.ats_auditors.specs.Inner.Sweeping.{entry_names}
-use Rattle.ats_auditors.specs.Commands.Sweep.{reads_gathered, gathers, PassesSweepLimit}
+use Rattle.ats_auditors.specs.Commands.{reads_gathered, gathers, PassesSweepLimit}
 use Rattle.ats_auditors.specs.declared.gathering.Gathered.{Gathered}
 use Rattle.ats_auditors.specs.declared.listing.Entry.{Entry}
 use Rattle.ats_console.specs.declared.stops.Stop.{Stop}
@@ -85,10 +85,10 @@ module _ (before mid : ShelfTold) (entries : List Entry) (i : ℕ) (entry : Entr
 
     pub so_far_more : count + length bytes ≤ 2 ^ 28 → AreSoFar before now entries (i + 1) (proofs ++ proof ∷ []) (count + length bytes)
     so_far_more within =
-        let room : total (proofs ++ proof ∷ []) ≤ 2 ^ 28 = omega (arith, counts, within) in
+        let space : total (proofs ++ proof ∷ []) ≤ 2 ^ 28 = omega (arith, counts, within) in
         record {
-          done = λ all. leads_try (tried (comes_to all) (so_far.done all)) room;
-          stopped = leads_try (tried (λ all. no_more) so_far.stopped) room;
+          done = λ all. leads_try (tried (comes_to all) (so_far.done all)) space;
+          stopped = leads_try (tried (λ all. no_more) so_far.stopped) space;
           counted = counts;
           within = within;
         }

@@ -8,7 +8,7 @@ use Rattle.ats_plan.specs.Runs.{Does, Stops, IsDone, IsStopped}
 use Rattle.ats_plan.proofs.Public.{Leads, leads_try, leads_read, leads_long}
 use Rattle.ats_auditors.specs.Gathered.{IsGathered, AreGathered, total}
 use Rattle.ats_console.specs.Steps.{no_more, comes_to}
-use Rattle.ats_auditors.specs.Commands.Sweep.{reads_gathered, gathers}
+use Rattle.ats_auditors.specs.Commands.{reads_gathered, gathers}
 use Rattle.ats_auditors.specs.declared.gathering.Gathered.{Gathered}
 use Rattle.ats_auditors.specs.declared.gathering.Gathered.TheVariants.{Whole, Long}
 use Rattle.ats_console.specs.declared.stops.Stop.{Stop}

@@ -1,6 +1,6 @@
 -- What other rooms may cite of the proofs of this one. All other files here are private.
 
 -- the plan of each command goes one way at most, and stops none for its words
-pub use Rattle.ats_auditors.proofs.Sound.{audit_sound, audit_fetch_sound, audit_both_sound, audit_growth_sound, sweep_sound, trial_sound}
+pub use Rattle.ats_auditors.proofs.Sound.{auditor_sound}
 -- the findings for the proofs of a list are one list
 pub use Rattle.ats_auditors.proofs.OneFinding.{one_findings}

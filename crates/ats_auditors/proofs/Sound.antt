@@ -6,7 +6,7 @@ use Rattle.ats_commit.specs.Archive.{Archive}
 use Rattle.ats_commit.specs.Root.{root_of}
 use Rattle.ats_plan.specs.Plan.{Plan, Tries}
 use Rattle.ats_plan.specs.Inner.Sound.{IsExact, IsOne}
-use Rattle.ats_console.specs.Words.{AuditWords, AuditFetchWords, AuditBothWords, AuditGrowthWords, SweepWords, TrialWords}
+use Rattle.ats_console.specs.Words.{AuditorCommand, Audit, AuditFetch, AuditBoth, AuditGrowth, Sweep, Trial, SweepWords}
 use Rattle.ats_console.specs.Stops.{line_of_bad_line}
 use Rattle.ats_console.specs.declared.stops.Stop.{Stop}
 use Rattle.ats_console.specs.declared.stops.Stop.TheVariants.{Input, Rejected, Collision}
@@ -16,12 +16,7 @@ use Rattle.ats_auditors.specs.Gathered.{total}
 use Rattle.ats_auditors.specs.Findings.{Finding, is_refused, is_collision, lines_of_findings}
 use Rattle.ats_auditors.specs.Trial.{IsTrialAccepted, RefusesTrial}
 use Rattle.ats_auditors.specs.Collided.{finds_none}
-use Rattle.ats_auditors.specs.Commands.Audit.{audit_plan}
-use Rattle.ats_auditors.specs.Commands.AuditFetch.{audit_fetch_plan}
-use Rattle.ats_auditors.specs.Commands.AuditBoth.{audit_both_plan}
-use Rattle.ats_auditors.specs.Commands.AuditGrowth.{audit_growth_plan}
-use Rattle.ats_auditors.specs.Commands.Sweep.{IsListStop, PassesSweepLimit, gathers, concludes, audits, sweeps, sweep_plan}
-use Rattle.ats_auditors.specs.Commands.Trial.{trial_plan}
+use Rattle.ats_auditors.specs.Commands.{auditor_plan, IsListStop, PassesSweepLimit, gathers, concludes, audits, sweeps}
 use Rattle.ats_auditors.specs.declared.gathering.Gathered.{Gathered}
 use Rattle.ats_auditors.specs.declared.gathering.Gathered.TheVariants.{Whole, Long}
 use Rattle.ats_auditors.proofs.OneList.{one_list, no_bad_line, one_bad_line}
@@ -77,21 +72,10 @@ sweeps_sound H words archive bytes =
 trial_exact : (H : List ℕ → List ℕ) (number : ℕ) → IsExact (IsTrialAccepted H number) (RefusesTrial H number)
 trial_exact H number = record { breaks = trial_not_refused H number; one = one_trial H number }
 
-module _ (H : List ℕ → List ℕ) where
-  pub audit_sound : (words : AuditWords) → Sound (audit_plan H words)
-  audit_sound words = ranking_sound (λ query. index_sound (λ archive. reads (fails not_rejected) (λ bytes. checks_sound (λ proof. none_sound ends))))
-
-  pub audit_fetch_sound : (words : AuditFetchWords) → Sound (audit_fetch_plan H words)
-  audit_fetch_sound words = index_sound (λ archive. named_sound (text_one H (root_of H archive) words.doc) (λ proof. none_sound ends))
-
-  pub audit_both_sound : (words : AuditBothWords) → Sound (audit_both_plan H words)
-  audit_both_sound words = query_sound (λ query. index_sound (λ archive. named_sound (both_one H (root_of H archive) query) (λ proof. none_sound ends)))
-
-  pub audit_growth_sound : (words : AuditGrowthWords) → Sound (audit_growth_plan H words)
-  audit_growth_sound words = index_sound (λ older. index_sound (λ newer. named_sound (growth_one H (root_of H older) (root_of H newer)) (λ growth. none_sound ends)))
-
-  pub sweep_sound : (words : SweepWords) → Sound (sweep_plan H words)
-  sweep_sound words = index_sound (λ archive. reads (fails not_input) (λ bytes. sweeps_sound H words archive bytes))
-
-  pub trial_sound : (words : TrialWords) → Sound (trial_plan H words)
-  trial_sound words = tries (trial_exact H words.number) (λ stops. not_input stops.2) ends
+pub auditor_sound : (H : List ℕ → List ℕ) (command : AuditorCommand) → Sound (auditor_plan H command)
+auditor_sound H (Audit words) = ranking_sound (λ query. index_sound (λ archive. reads (fails not_rejected) (λ bytes. checks_sound (λ proof. none_sound ends))))
+auditor_sound H (AuditFetch words) = index_sound (λ archive. named_sound (text_one H (root_of H archive) words.doc) (λ proof. none_sound ends))
+auditor_sound H (AuditBoth words) = query_sound (λ query. index_sound (λ archive. named_sound (both_one H (root_of H archive) query) (λ proof. none_sound ends)))
+auditor_sound H (AuditGrowth words) = index_sound (λ older. index_sound (λ newer. named_sound (growth_one H (root_of H older) (root_of H newer)) (λ growth. none_sound ends)))
+auditor_sound H (Sweep words) = index_sound (λ archive. reads (fails not_input) (λ bytes. sweeps_sound H words archive bytes))
+auditor_sound H (Trial words) = tries (trial_exact H words.number) (λ stops. not_input stops.2) ends

@@ -18,12 +18,12 @@ use Rattle.ats_auditors.specs.Inner.Sweeping.{IsEntry, AreJobs, entry_names, fin
 use Rattle.ats_auditors.specs.Gathered.{AreGathered}
 use Rattle.ats_auditors.specs.Findings.{Finding, AreFound, AreFindings, IsSwept}
 use Rattle.ats_console.specs.Steps.{no_more, comes_to}
-use Rattle.ats_auditors.specs.Commands.Sweep.{IsListStop, gathers, concludes, audits, sweeps}
+use Rattle.ats_auditors.specs.Commands.{IsListStop, gathers, concludes, audits, sweeps}
 use Rattle.ats_auditors.specs.declared.gathering.Gathered.{Gathered}
 use Rattle.ats_auditors.specs.declared.listing.Entry.{Entry}
 use Rattle.ats_auditors.specs.declared.sweeping.Report.{Report}
 use Rattle.ats_console.specs.declared.stops.Stop.{Stop}
-use Rattle.ats_console.specs.declared.stops.Stop.TheVariants.{Usage, Shelf, Input, Rejected, Memory, Link, Peer, Faults, Collision}
+use Rattle.ats_console.specs.declared.stops.Stop.TheVariants.{Shelf, Rejected, Memory, Collision}
 use Rattle.ats_console.proofs.Public.{memory_stops, get_stops}
 use Rattle.ats_auditors.proofs.ListEntries.{listed_of, listed_names, list_is}
 use Rattle.ats_auditors.proofs.Gathers.{leads_gathers, at_gathers, has_gathers, same_gathers}

@@ -1,5 +1,5 @@
 -- The results of the proofs of a trial.
-use Rattle.std.proofs.Common.{◌≡◌, ◌+◌, ◌<◌, ◌≤◌, ◌^◌, ℕ, ◌⊎◌, true, Option, None, List, [], ◌∷◌, ◌++◌, length, get_or, sum_by, Some, refl, sym, ap, ap₂, subst, ◌∙◌, arith, inl, inr, zero-add, Result, Err, IfErr, codes, decimal, Vec, Global}
+use Rattle.std.proofs.Common.{◌≡◌, ◌+◌, ◌<◌, ◌≤◌, ◌^◌, ℕ, ◌⊎◌, true, Option, None, List, [], ◌∷◌, ◌++◌, length, get_or, sum_by, Some, refl, sym, ap, ap₂, subst, ◌∙◌, arith, inl, inr, zero-add, Result, IfErr, codes, decimal, Vec, Global}
 use Rattle.std.specs.Prelude.{IfOk}
 use Rattle.std.proofs.lemmas.Bool.{cases_Bool, cases_lt, cond-false, cond-true}
 use Rattle.std.proofs.lemmas.List.{length-append, get_or_append_left, get_or_read}
@@ -30,7 +30,7 @@ use Rattle.ats_impact.specs.Trial.{trial_query}
 use Rattle.ats_base.specs.Outside.{ShelfTold}
 use Rattle.ats_plan.specs.Runs.{IsDone, IsStopped}
 use Rattle.ats_plan.proofs.Public.{done_try, done_end, at_memory, at_try}
-use Rattle.ats_auditors.specs.Commands.Trial.{trial_plan}
+use Rattle.ats_auditors.specs.Commands.{trial_plan}
 use Rattle.ats_console.specs.Stops.{stop_of_query, line_of_long_proof}
 use Rattle.ats_console.specs.Print.{line_of_root}
 use Rattle.ats_auditors.specs.Trial.{line_of_proofs, lines_of_trial, shown_entries, trial_archive, turn, IsTried, AreQueries, AreTrialProofs, IsTrialProof, IsTrial, IsTrialTooLong, IsTrialAccepted}

@@ -8,7 +8,7 @@ ghost use Rattle.ats_plan.specs.Runs.{IsDone, IsStopped};
 ghost use Rattle.ats_console.specs.Print.{lines};
 ghost use Rattle.ats_auditors.specs.Audited.{proof_audit};
 ghost use Rattle.ats_auditors.specs.Inner.Audited.{AuditStop};
-ghost use Rattle.ats_auditors.specs.Commands.Audit.{audit_plan};
+ghost use Rattle.ats_auditors.specs.Commands.{audit_plan};
 ghost use Rattle.ats_console.specs.declared.stops.Stop.TheVariants.{Shelf as AtShelf, Memory};
 
 use ats_audit::Verdict;
@@ -53,7 +53,7 @@ fn audit_to_lines<H: Hash32>(
 }
 
 /// The lines of `audit`. The words are checked before anything is read, and the index before the proof.
-pub fn audit<H: Hash32 + Sync, R: Threads + Sync, S: Shelf>(
+pub(crate) fn audit<H: Hash32 + Sync, R: Threads + Sync, S: Shelf>(
     rt: &R,
     alloc: Global,
     index: &str,

@@ -8,7 +8,7 @@ ghost use Rattle.ats_console.specs.Print.{lines_of_documents};
 ghost use Rattle.ats_console.specs.declared.stops.Stop.TheVariants.{Shelf as AtShelf, Memory};
 ghost use Rattle.ats_auditors.specs.Audited.{both_audit};
 ghost use Rattle.ats_auditors.specs.Inner.Audited.{AuditStop};
-ghost use Rattle.ats_auditors.specs.Commands.AuditBoth.{audit_both_plan};
+ghost use Rattle.ats_auditors.specs.Commands.{audit_both_plan};
 
 use ats_base::Shelf;
 use ats_both::BothVerdict;
@@ -51,7 +51,7 @@ fn audit_both_to_lines<H: Hash32>(
 }
 
 /// The lines of `audit-both`. The query is read before anything else, and the index before the proof.
-pub fn audit_both<H: Hash32 + Sync, R: Threads + Sync, S: Shelf>(
+pub(crate) fn audit_both<H: Hash32 + Sync, R: Threads + Sync, S: Shelf>(
     rt: &R,
     alloc: Global,
     index: &str,

@@ -5,7 +5,7 @@ ghost use Rattle.ats_plan.specs.Runs.{IsDone, IsStopped};
 ghost use Rattle.ats_auditors.specs.Gathered.{content};
 ghost use Rattle.ats_console.specs.Steps.{no_more, comes_to};
 ghost use Rattle.ats_auditors.specs.Inner.Sweeping.{entry_names};
-ghost use Rattle.ats_auditors.specs.Commands.Sweep.{reads_gathered, gathers};
+ghost use Rattle.ats_auditors.specs.Commands.{reads_gathered, gathers};
 ghost use Rattle.ats_console.specs.declared.stops.Stop.TheVariants.{Shelf as AtShelf, Memory};
 
 use crate::listing::Entry;

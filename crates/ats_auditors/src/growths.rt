@@ -9,7 +9,7 @@ ghost use Rattle.ats_console.specs.declared.stops.Stop.TheVariants.{Shelf as AtS
 ghost use Rattle.ats_auditors.specs.Collided.{lines_of_growth_collision};
 ghost use Rattle.ats_auditors.specs.Audited.{growth_audit};
 ghost use Rattle.ats_auditors.specs.Inner.Audited.{AuditStop};
-ghost use Rattle.ats_auditors.specs.Commands.AuditGrowth.{audit_growth_plan};
+ghost use Rattle.ats_auditors.specs.Commands.{audit_growth_plan};
 
 use ats_base::Shelf;
 use ats_console::{GROWTH_FILE_LIMIT, Line, Stop, grown_line, pair_lines, read, refused, rejected};
@@ -63,7 +63,7 @@ fn audit_to_line<H: Hash32>(
 }
 
 /// The line of `audit-growth`. The old index is read before the new one, and both before the file.
-pub fn audit_growth<H: Hash32 + Sync, R: Threads + Sync, S: Shelf>(
+pub(crate) fn audit_growth<H: Hash32 + Sync, R: Threads + Sync, S: Shelf>(
     rt: &R,
     alloc: Global,
     old: &str,

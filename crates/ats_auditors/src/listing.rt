@@ -4,7 +4,7 @@ ghost use Rattle.std.specs.Prelude.{◌≡◌, ◌≢◌, ◌⊎◌, ◌≤◌, 
 ghost use Rattle.std.specs.List.{AllZip};
 ghost use Rattle.ats_auditors.specs.Listed.{Listed, IsSpelled, IsListed, lines_of};
 ghost use Rattle.ats_auditors.specs.Inner.Sweeping.{IsEntry, IsSpelledAs};
-ghost use Rattle.ats_auditors.specs.Commands.Sweep.{IsListStop};
+ghost use Rattle.ats_auditors.specs.Commands.{IsListStop};
 ghost use Rattle.ats_console.specs.declared.stops.Stop.TheVariants.{Memory};
 
 use ats_console::{Stop, bad_line, number};

@@ -9,7 +9,7 @@ ghost use Rattle.ats_console.specs.Words.{SweepWords};
 ghost use Rattle.ats_console.specs.Read.{HasIndex};
 ghost use Rattle.ats_auditors.specs.Findings.{FoundRefused, is_refused, is_collision, line_of_finding};
 ghost use Rattle.ats_auditors.specs.Inner.Sweeping.{AreJobs, IsReport, ConclusionStop, finding_of, found_by};
-ghost use Rattle.ats_auditors.specs.Commands.Sweep.{sweeps, sweep_plan};
+ghost use Rattle.ats_auditors.specs.Commands.{sweeps, sweep_plan};
 ghost use Rattle.ats_console.specs.declared.stops.Stop.TheVariants.{Shelf as AtShelf, Memory};
 
 use crate::gathering::{Gathered, gather_all};
@@ -210,7 +210,7 @@ fn sweep_to_lines<H: Hash32 + Sync, R: Threads + Sync, S: Shelf>(
 
 /// The lines of `sweep`. The index is read before the list, all lines are checked before a proof is gathered, and all
 /// proofs are gathered before one is audited.
-pub fn sweep<H: Hash32 + Sync, R: Threads + Sync, S: Shelf>(
+pub(crate) fn sweep<H: Hash32 + Sync, R: Threads + Sync, S: Shelf>(
     rt: &R,
     alloc: Global,
     index: &str,

@@ -9,7 +9,7 @@ ghost use Rattle.ats_console.specs.declared.stops.Stop.TheVariants.{Shelf as AtS
 ghost use Rattle.ats_auditors.specs.Collided.{lines_of_text_collision};
 ghost use Rattle.ats_auditors.specs.Audited.{text_audit};
 ghost use Rattle.ats_auditors.specs.Inner.Audited.{AuditStop};
-ghost use Rattle.ats_auditors.specs.Commands.AuditFetch.{audit_fetch_plan};
+ghost use Rattle.ats_auditors.specs.Commands.{audit_fetch_plan};
 
 use ats_base::Shelf;
 use ats_console::{
@@ -66,7 +66,7 @@ fn audit_to_text<H: Hash32>(
 }
 
 /// The text of `audit-fetch`, and a line feed. The index is read before the file.
-pub fn audit_fetch<H: Hash32 + Sync, R: Threads + Sync, S: Shelf>(
+pub(crate) fn audit_fetch<H: Hash32 + Sync, R: Threads + Sync, S: Shelf>(
     rt: &R,
     alloc: Global,
     index: &str,

@@ -11,7 +11,7 @@ ghost use Rattle.ats_audit.specs.Verdicts.{IsVerdict};
 ghost use Rattle.ats_audit.specs.declared.auditing.Verdict.{Verdict};
 ghost use Rattle.ats_base.specs.Outside.{ShelfTold};
 ghost use Rattle.ats_plan.specs.Runs.{IsDone, IsStopped};
-ghost use Rattle.ats_auditors.specs.Commands.Trial.{trial_plan};
+ghost use Rattle.ats_auditors.specs.Commands.{trial_plan};
 ghost use Rattle.ats_auditors.specs.Trial.{shown_entries, IsTried, line_of_proofs, lines_of_trial};
 ghost use Rattle.ats_auditors.specs.Inner.Trial.{is_right, tally_of, counted, IsSmall, IsTryStop, IsTriesStop, AreTried, AreTriedLines, AreTrialQueries, IsTrialStop};
 ghost use Rattle.ats_console.specs.declared.stops.Stop.TheVariants.{Shelf as AtShelf, Memory};
@@ -52,7 +52,7 @@ const NONE: Tally = Tally {
 
 // How many entries of the lists a proof shows.
 fn shown_entries(proof: &ProofView<'_>, steps: &mut Steps) -> u64
-    requires room { steps.old ≤ 2 ^ 63 }
+    requires space { steps.old ≤ 2 ^ 63 }
     ensures value { result ≡ shown_entries proof.now }
     ensures few { result ≤ 2 ^ 48 }
 {
@@ -123,7 +123,7 @@ fn count<H: Hash32>(
 ) -> Result<(), Stop>
     requires ten { top ≡ 10 }
     requires small { IsSmall tally.old }
-    requires room { tally.old.accepted < 20 }
+    requires space { tally.old.accepted < 20 }
     ensures counted { OnOk result ((proof : Proof)
         × IsTried H.hash index.now query.now algorithm proof × (tally.new ≡ counted proof tally.old)) }
     ensures small { OnOk result (IsSmall tally.new) }
@@ -249,7 +249,7 @@ const ROWS: u32 = 10;
 
 /// The lines of `trial`: its queries are read, then its texts are indexed, and then each query is proved, checked and
 /// audited by each algorithm. It counts what the check and the audit returned, though a proof says 20 and 40.
-pub fn trial<H: Hash32 + Sync, R: Threads + Sync>(
+pub(crate) fn trial<H: Hash32 + Sync, R: Threads + Sync>(
     rt: &R,
     alloc: Global,
     number: u32,

@@ -1,11 +1,15 @@
 -- Laws of groups of rules that are checked one after another.
-use Rattle.std.proofs.Common.{◌≡◌, ◌⊎◌, List, [], ◌∷◌, inl, inr}
+use Rattle.std.proofs.Common.{◌≡◌, ◌∙◌, ◌⊎◌, List, [], ◌∷◌, inl, inr, sym}
 use Rattle.ats_base.specs.Rules.{Group, AllHold, IsFirstFault}
 
--- a group that fails is not kept, and fails in one way
+-- a group that fails does not hold, and fails in one way
 pub record IsExact {F : Type 0} (group : Group F) : Type 0 where
-  pub breaks : (fault : F) → group.fault fault → group.kept → ⊥
+  pub breaks : (fault : F) → group.fault fault → group.holds → ⊥
   pub one : (a b : F) → group.fault a → group.fault b → a ≡ b
+
+-- a group that fails only by x is exact
+pub fails_by : {F : Type 0} (x : F) (group : Group F) → ((a : F) → group.fault a → (a ≡ x) × (group.holds → ⊥)) → IsExact group
+fails_by x group is = record { breaks = λ a fault holds. (is a fault).1 holds; one = λ a b fault also. (is a fault).0 ∙ sym (is b also).0 }
 
 abbrev pub AreExact : {F : Type 0} → List (Group F) → Type 0
 AreExact [] = Unit {0}
@@ -13,9 +17,9 @@ AreExact (group ∷ groups) = IsExact group × AreExact groups
 
 -- if a group fails first, not all hold
 pub not_all_hold : {F : Type 0} (groups : List (Group F)) (fault : F) → AreExact groups → IsFirstFault groups fault → AllHold groups → ⊥
-not_all_hold [] fault exact is kept = is
-not_all_hold (group ∷ groups) fault exact (inl is) kept = exact.0.breaks fault is kept.0
-not_all_hold (group ∷ groups) fault exact (inr later) kept = not_all_hold groups fault exact.1 later.1 kept.1
+not_all_hold [] fault exact is holds = is
+not_all_hold (group ∷ groups) fault exact (inl is) holds = exact.0.breaks fault is holds.0
+not_all_hold (group ∷ groups) fault exact (inr later) holds = not_all_hold groups fault exact.1 later.1 holds.1
 
 -- there is one first failure
 pub one_first : {F : Type 0} (groups : List (Group F)) (a b : F) → AreExact groups → IsFirstFault groups a → IsFirstFault groups b → a ≡ b
@@ -28,12 +32,12 @@ one_first (group ∷ groups) a b exact (inr later) (inr also) = one_first groups
 -- if each group holds or fails, all hold or one fails first
 abbrev pub AreTried : {F : Type 0} → List (Group F) → Type 0
 AreTried [] = Unit {0}
-AreTried {F} (group ∷ groups) = (group.kept ⊎ ((fault : F) × group.fault fault)) × AreTried groups
+AreTried {F} (group ∷ groups) = (group.holds ⊎ ((fault : F) × group.fault fault)) × AreTried groups
 
 pub hold_or_first : {F : Type 0} (groups : List (Group F)) → AreTried groups → AllHold groups ⊎ ((fault : F) × IsFirstFault groups fault)
 hold_or_first [] tried = inl tt
 hold_or_first (group ∷ groups) (inr fails, later) = inr (fails.0, inl fails.1)
-hold_or_first (group ∷ groups) (inl kept, later) = elim (hold_or_first groups later) [
-  | inl all ↦ inl (kept, all)
-  | inr first ↦ inr (first.0, inr (kept, first.1))
+hold_or_first (group ∷ groups) (inl holds, later) = elim (hold_or_first groups later) [
+  | inl all ↦ inl (holds, all)
+  | inr first ↦ inr (first.0, inr (holds, first.1))
 ]

@@ -4,17 +4,17 @@ use Rattle.std.specs.List.{All}
 
 -- when a group of rules holds, and how it fails
 pub record Group (F : Type 0) : Type 1 where
-  pub kept : Type 0
+  pub holds : Type 0
   pub fault : F → Type 0
 
 abbrev pub AllHold : {F : Type 0} → List (Group F) → Type 0
 AllHold [] = Unit {0}
-AllHold (group ∷ groups) = group.kept × AllHold groups
+AllHold (group ∷ groups) = group.holds × AllHold groups
 
 -- the failure of the first group that fails; all groups before it hold
 abbrev pub IsFirstFault : {F : Type 0} → List (Group F) → F → Type 0
 IsFirstFault [] fault = ⊥
-IsFirstFault (group ∷ groups) fault = group.fault fault ⊎ (group.kept × IsFirstFault groups fault)
+IsFirstFault (group ∷ groups) fault = group.fault fault ⊎ (group.holds × IsFirstFault groups fault)
 
 -- the failure of the first of some elements that breaks its rules
 pub record IsFirstOf {X F : Type 0} (Keeps : X → Type 0) (Fails : X → F → Type 0) (xs : List X) (told : F) : Type 0 where

@@ -173,7 +173,7 @@ impl MemCaller {
         ensures fine { IfOk result (λ link. link.device.last_failed ≡ false) }
         ensures none { self.old.links.waiting ≡ [] → IsErr result }
         ensures out { OnOk result (self.new.links.out ≡ self.old.links.out + 1) }
-        ensures kept { OnErr result (self.new.links ≡ self.old.links) }
+        ensures same { OnErr result (self.new.links ≡ self.old.links) }
         ensures device { self.new.device ≡ self.old.device }
     {
         let Ok(called) = Bytes::of(self.alloc, address.as_bytes()) else {
@@ -209,7 +209,7 @@ impl Caller for MemCaller {
             × (link ≡ record w { address = Some address.now })) }
         ensures planned { (fails_next self.old.device ≡ true) ⊎ (self.old.links.waiting ≡ []) → IsErr result }
         ensures out { OnOk result (self.new.links.out ≡ self.old.links.out + 1) }
-        ensures kept { OnErr result (self.new.links ≡ self.old.links) }
+        ensures same { OnErr result (self.new.links ≡ self.old.links) }
         ensures device { self.new.device ≡ answered self.old.device result }
     {
         if self.plan.next_fails() {
@@ -372,7 +372,7 @@ impl Door for MemDoor {
         ensures first { IfOk result (λ link. self.old.links.waiting ≡ link ∷ self.new.links.waiting) }
         ensures planned { (fails_next self.old.device ≡ true) ⊎ (self.old.links.waiting ≡ []) → IsErr result }
         ensures out { OnOk result (self.new.links.out ≡ self.old.links.out + 1) }
-        ensures kept { OnErr result (self.new.links ≡ self.old.links) }
+        ensures same { OnErr result (self.new.links ≡ self.old.links) }
         ensures device { self.new.device ≡ answered self.old.device result }
     {
         self.accepts = self.accepts.saturating_add(1);

@@ -66,11 +66,11 @@ module _ (H : List ℕ → List ℕ) (archive : Archive) (query : List (List ℕ
     | inr absent ↦ inl absent
   ]
 
-  -- if the rules of what the proof shows are kept, the proof of a query with a term is accepted
+  -- if the rules of what the proof shows hold, the proof of a query with a term is accepted
   pub both_accepted : 1 ≤ length query → AllHold (section_rules H (root_of H archive) query proof) → SeesWhole → AcceptsBoth H (root_of H archive) query proof
-  both_accepted some kept sees = record {
-    kept = (
+  both_accepted some all sees = record {
+    holds = (
       by_tra H archive.texts (present archive.texts query) proof.met proof.docs made.shows.docs,
-      (ap (λ (rows : List ℕ). length rows) made.empty, (kept, (whole_shown some sees, tt))),
+      (ap (λ (rows : List ℕ). length rows) made.empty, (all, (whole_shown some sees, tt))),
     );
   }

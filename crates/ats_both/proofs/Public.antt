@@ -8,7 +8,7 @@ pub use Rattle.ats_both.proofs.Cuts.{ShowsWhole}
 pub use Rattle.ats_both.proofs.Cuts.{both_shows_whole}
 -- what says that a list which the cut of the proof shows whole is seen as whole by the check
 pub use Rattle.ats_both.proofs.Accepted.{SeesWhole}
--- the proof of a query with a term is accepted, if the rules of what it shows are kept and whole lists are seen
+-- the proof of a query with a term is accepted, if the rules of what it shows hold and whole lists are seen
 pub use Rattle.ats_both.proofs.Accepted.{both_accepted}
 -- for all archives with the root the shown documents are all with every term, or each verdict on the bytes tells a collision
 pub use Rattle.ats_both.proofs.Told.{told}

@@ -77,7 +77,7 @@ not_before lane k e whole inside = list_any_none _ (take k lane.entries) (λ j d
     other_doc _ _ (λ clash. differ (sym (ap (λ (x : Entry). x.doc) is) ∙ clash ∙ sym (ap (λ (x : Entry). x.doc) same))))
 
 module _ (lanes : List WholeLane) (cut : List ℕ) (i : ℕ) (whole : IsWholeLane (lane_on (record { lanes = lanes; cut = cut }) i)) (inside : i < length lanes)
-    (size : length cut ≡ length lanes) (room : get_or cut i 0 < length (lane_on (record { lanes = lanes; cut = cut }) i).entries) where
+    (size : length cut ≡ length lanes) (space : get_or cut i 0 < length (lane_on (record { lanes = lanes; cut = cut }) i).entries) where
   abbrev stage : Stage
   stage = record { lanes = lanes; cut = cut }
 
@@ -109,10 +109,10 @@ module _ (lanes : List WholeLane) (cut : List ℕ) (i : ℕ) (whole : IsWholeLan
   there = omega (arith, inside, length-shown lanes cut size)
 
   names_next : (q : ℕ) → names q next ≡ (names q before || nat_eq entry.doc q)
-  names_next q = list_any_more (λ (x : Entry). nat_eq x.doc q) lane.entries k (record { doc = 0; impact = 0 }) room
+  names_next q = list_any_more (λ (x : Entry). nat_eq x.doc q) lane.entries k (record { doc = 0; impact = 0 }) space
 
   impact_next : (q : ℕ) → shown_impact q next ≡ shown_impact q before + cond (nat_eq entry.doc q) entry.impact 0
-  impact_next q = sum_by_more (λ (x : Entry). cond (nat_eq x.doc q) x.impact 0) lane.entries k (record { doc = 0; impact = 0 }) room
+  impact_next q = sum_by_more (λ (x : Entry). cond (nat_eq x.doc q) x.impact 0) lane.entries k (record { doc = 0; impact = 0 }) space
 
   lower_next : (q : ℕ) → lo_of (set all i next) q + lane.coefficient * shown_impact q before ≡ lo_of all q + lane.coefficient * shown_impact q next
   lower_next q =
@@ -123,7 +123,7 @@ module _ (lanes : List WholeLane) (cut : List ℕ) (i : ℕ) (whole : IsWholeLan
   named_next q = rw here at (named-set q all i next no_shown there)
 
   fresh : names entry.doc before ≡ false
-  fresh = not_before lane k (record { doc = 0; impact = 0 }) whole room
+  fresh = not_before lane k (record { doc = 0; impact = 0 }) whole space
 
   pub entered : Enters (shown lanes cut) (shown lanes (set cut i (get_or cut i 0 + 1))) (entry_on (record { lanes = lanes; cut = cut }) i).doc
       ((lane_on (record { lanes = lanes; cut = cut }) i).coefficient * (entry_on (record { lanes = lanes; cut = cut }) i).impact) (2 ^ i)

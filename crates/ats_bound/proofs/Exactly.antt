@@ -162,9 +162,9 @@ names_after stage i doc is inside more =
     let there : i < length (shown_on stage) = omega (arith, inside, length-shown stage.lanes stage.cut is.cut.size) in
     let after : ShownLane = lane_of lane.coefficient lane.entries (count + 1) in
     let here : get_or (shown_on stage) i no_shown ≡ lane_of lane.coefficient lane.entries count = get_or-shown stage.lanes stage.cut i no_shown e inside low in
-    let room : count < length lane.entries = open_more stage.lanes stage.cut i e is.cut inside more in
+    let space : count < length lane.entries = open_more stage.lanes stage.cut i e is.cut inside more in
     let named : names doc after ≡ (nat_eq (entry_on stage i).doc doc || names doc (get_or (shown_on stage) i no_shown)) =
-    names_more doc lane.coefficient count lane.entries (record { doc = 0; impact = 0 }) room ∙ ap (λ (l : ShownLane). nat_eq (entry_on stage i).doc doc || names doc l) (sym here) in
+    names_more doc lane.coefficient count lane.entries (record { doc = 0; impact = 0 }) space ∙ ap (λ (l : ShownLane). nat_eq (entry_on stage i).doc doc || names doc l) (sym here) in
     ap (list_any (names doc)) (shown-set stage.lanes stage.cut i (count + 1) e inside low)
     ∙ any_set (names doc) (shown_on stage) i after (nat_eq (entry_on stage i).doc doc) there named
 

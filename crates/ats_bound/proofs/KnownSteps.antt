@@ -29,7 +29,7 @@ power_some zero = omega arith
 power_some (suc i) = omega (arith, power_some i, pow-succ' 2 i)
 
 module _ (lanes : List WholeLane) (cut : List ℕ) (i : ℕ) (few : length lanes ≤ 32) (whole : IsWholeLane (lane_on (record { lanes = lanes; cut = cut }) i)) (inside : i < length lanes)
-    (size : length cut ≡ length lanes) (room : get_or cut i 0 < length (lane_on (record { lanes = lanes; cut = cut }) i).entries)
+    (size : length cut ≡ length lanes) (space : get_or cut i 0 < length (lane_on (record { lanes = lanes; cut = cut }) i).entries)
     (met : List Met) (known : AreKnown (shown lanes cut) met) (doc gain digit : ℕ) (doc_is : doc ≡ (entry_on (record { lanes = lanes; cut = cut }) i).doc)
     (gain_is : gain ≡ (lane_on (record { lanes = lanes; cut = cut }) i).coefficient * (entry_on (record { lanes = lanes; cut = cut }) i).impact)
     (little : gain ≤ 34935 * 65535) (digit_is : digit ≡ 2 ^ i) where
@@ -37,11 +37,11 @@ module _ (lanes : List WholeLane) (cut : List ℕ) (i : ℕ) (few : length lanes
   after = shown lanes (set cut i (get_or cut i 0 + 1))
 
   enters : Enters (shown lanes cut) after doc gain digit
-  enters = rw (doc_is, gain_is, digit_is) (entered lanes cut i whole inside size room)
+  enters = rw (doc_is, gain_is, digit_is) (entered lanes cut i whole inside size space)
 
   -- the sums fit their types
-  pub step_room : (slot : ℕ) → slot < length met → (met_at met slot).doc ≡ doc → ((met_at met slot).lo + gain < 2 ^ 64) × ((met_at met slot).named + digit < 2 ^ 32)
-  step_room slot low same =
+  pub step_space : (slot : ℕ) → slot < length met → (met_at met slot).doc ≡ doc → ((met_at met slot).lo + gain < 2 ^ 64) × ((met_at met slot).named + digit < 2 ^ 32)
+  step_space slot low same =
       let is : IsKnown (shown lanes cut) (met_at met slot) = known.each slot low in
       let named : (met_at met slot).named + digit ≡ named_by after doc = ap (λ n. n + digit) is.named ∙ ap (λ n. named_by (shown lanes cut) n + digit) same ∙ sym enters.named in
       let all : length after ≡ length lanes = length-shown lanes (set cut i (get_or cut i 0 + 1)) (length-set cut i (get_or cut i 0 + 1) ∙ size) in
@@ -120,8 +120,8 @@ module _ (lanes : List Lane) (i : ℕ) (whole : AreWholeLanes (whole_lanes lanes
       ap (λ (l : WholeLane). get_or l.entries (get_or begun i 0) (record { doc = 0; impact = 0 })) lane_there
       ∙ ap (λ k. get_or (get_or lanes i no_lane).entries.now k (record { doc = 0; impact = 0 })) (begun_here wholes i)
 
-  room_there : get_or begun i 0 < length (lane_on first_stage i).entries
-  room_there = omega (arith, begun_here wholes i, whole_there.some)
+  space_there : get_or begun i 0 < length (lane_on first_stage i).entries
+  space_there = omega (arith, begun_here wholes i, whole_there.some)
 
   doc_there : doc ≡ (entry_on first_stage i).doc
   doc_there = doc_is ∙ sym (ap (λ (e : Entry). e.doc) entry_there)
@@ -129,23 +129,23 @@ module _ (lanes : List Lane) (i : ℕ) (whole : AreWholeLanes (whole_lanes lanes
   gain_there : gain ≡ (lane_on first_stage i).coefficient * (entry_on first_stage i).impact
   gain_there = gain_is ∙ sym (ap₂ (λ c n. c * n) (ap (λ (l : WholeLane). l.coefficient) lane_there) (ap (λ (e : Entry). e.impact) entry_there))
 
-  pub first_room : (slot : ℕ) → slot < length met → (met_at met slot).doc ≡ doc → ((met_at met slot).lo + gain < 2 ^ 64) × ((met_at met slot).named + digit < 2 ^ 32)
-  first_room = step_room wholes begun i whole.few whole_there inside_wholes (begun_size wholes i) room_there met known doc gain digit doc_there gain_there little digit_is
+  pub first_space : (slot : ℕ) → slot < length met → (met_at met slot).doc ≡ doc → ((met_at met slot).lo + gain < 2 ^ 64) × ((met_at met slot).named + digit < 2 ^ 32)
+  first_space = step_space wholes begun i whole.few whole_there inside_wholes (begun_size wholes i) space_there met known doc gain digit doc_there gain_there little digit_is
 
   pub first_known : (later : List Met) → Meets met later doc gain digit → AreKnown (shown wholes (begun_cut wholes (i + 1))) later
   first_known later meets =
       let next : set begun i (get_or begun i 0 + 1) ≡ begun_cut wholes (i + 1) =
       ap (λ k. set begun i (k + 1)) (begun_here wholes i) ∙ begun_next wholes i inside_wholes ∙ ap (begun_cut wholes) (sym (add-one i)) in
       subst (λ (cut : List ℕ). AreKnown (shown wholes cut) later) next
-      (step_known wholes begun i whole.few whole_there inside_wholes (begun_size wholes i) room_there met known doc gain digit doc_there gain_there little digit_is later meets)
+      (step_known wholes begun i whole.few whole_there inside_wholes (begun_size wholes i) space_there met known doc gain digit doc_there gain_there little digit_is later meets)
 
 -- ---- one entry more
 
 module _ (stage : Stage) (i : ℕ) (is : IsStage stage) (inside : i < length stage.lanes) (more : IsOpen stage.lanes stage.cut i) (met : List Met) (known : AreKnown (shown_on stage) met)
     (doc gain digit : ℕ) (doc_is : doc ≡ (entry_on stage i).doc) (gain_is : gain ≡ (lane_on stage i).coefficient * (entry_on stage i).impact) (little : gain ≤ 34935 * 65535)
     (digit_is : digit ≡ 2 ^ i) where
-  pub next_room : (slot : ℕ) → slot < length met → (met_at met slot).doc ≡ doc → ((met_at met slot).lo + gain < 2 ^ 64) × ((met_at met slot).named + digit < 2 ^ 32)
-  next_room = step_room stage.lanes stage.cut i is.whole.few (whole_on stage i is inside) inside is.cut.size (next_inside stage i is inside more) met known doc gain digit doc_is gain_is little digit_is
+  pub next_space : (slot : ℕ) → slot < length met → (met_at met slot).doc ≡ doc → ((met_at met slot).lo + gain < 2 ^ 64) × ((met_at met slot).named + digit < 2 ^ 32)
+  next_space = step_space stage.lanes stage.cut i is.whole.few (whole_on stage i is inside) inside is.cut.size (next_inside stage i is inside more) met known doc gain digit doc_is gain_is little digit_is
 
   pub next_known : (later : List Met) (after : Stage) → after.lanes ≡ stage.lanes → after.cut ≡ set stage.cut i (get_or stage.cut i 0 + 1) → Meets met later doc gain digit
       → AreKnown (shown_on after) later

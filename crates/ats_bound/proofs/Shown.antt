@@ -86,9 +86,9 @@ cut_after lanes cut i is low more =
       each = λ j d inside. elim (cases_order j i) [
         | inl same ↦
             let there : get_or (set cut i next) j 0 ≡ next = ap (λ k. get_or (set cut i next) k 0) same ∙ get_or-set_same cut i next 0 low_cut in
-            let room : get_or cut i 0 < length (get_or lanes i d).entries = open_more lanes cut i d is low more in
-            let room_there : get_or cut i 0 < length (get_or lanes j d).entries = rw same room in
-            (omega (arith, there), omega (arith, there, room_there))
+            let space : get_or cut i 0 < length (get_or lanes i d).entries = open_more lanes cut i d is low more in
+            let space_there : get_or cut i 0 < length (get_or lanes j d).entries = rw same space in
+            (omega (arith, there), omega (arith, there, space_there))
         | inr other ↦
             let differ : j ≢ i = λ e. elim other [ inl less ↦ omega (arith, e, less) | inr greater ↦ omega (arith, e, greater) ] in
             let there : get_or (set cut i next) j 0 ≡ get_or cut j 0 = get_or-set_other cut i j next 0 differ in
@@ -131,9 +131,9 @@ fewer_hidden lanes cut i is low more =
     let here : get_or (shown lanes cut) i d ≡ lane_of lane.coefficient lane.entries k = get_or-shown lanes cut i d e low low_cut in
     let changed : sum_by hidden (set (shown lanes cut) i after) + hidden (get_or (shown lanes cut) i d) ≡ sum_by hidden (shown lanes cut) + hidden after = sum_by-set hidden (shown lanes cut) i after d low_shown in
     let before : hidden (get_or (shown lanes cut) i d) ≡ length lane.entries - length (take k lane.entries) = ap hidden here in
-    let room : k < length lane.entries = open_more lanes cut i e is low more in
+    let space : k < length lane.entries = open_more lanes cut i e is low more in
     rw (shown-set lanes cut i (k + 1) e low low_cut)
-    (omega (arith, changed, before, room, length-take k lane.entries, length-take (k + 1) lane.entries))
+    (omega (arith, changed, before, space, length-take k lane.entries, length-take (k + 1) lane.entries))
 
 -- one for each lane
 pub ones : (lanes : List Lane) → replicate (length lanes) 1 ≡ first_cut (whole_lanes lanes)

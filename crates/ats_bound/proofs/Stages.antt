@@ -58,7 +58,7 @@ rests_after stage rests threshold i amount threshold_after are inside more is su
 pub record IsNextAt (stage : Stage) (i now : ℕ) (lane : Lane) : Type 0 where
   pub count : now ≡ get_or stage.cut i 0
   pub lane_is : whole_lane lane ≡ lane_on stage i
-  pub room : now < length lane.entries.now
+  pub space : now < length lane.entries.now
   pub whole : IsWholeLane (whole_lane lane)
 
 pub next_of : (lanes : List Lane) (counts : List ℕ) (i now : ℕ) (lane : Lane) → IsStage (record { lanes = whole_lanes lanes; cut = counts })
@@ -69,11 +69,11 @@ next_of lanes counts i now lane is inside more now_is lane_is =
     let low : i < length lanes = omega (arith, inside, length-map lanes whole_lane) in
     let count : now ≡ get_or counts i 0 = now_is ∙ get_or_default counts i now 0 (omega (arith, inside, is.cut.size)) in
     let same : lane_on stage i ≡ whole_lane lane = get_or-map whole_lane lanes i lane (record { coefficient = 0; entries = [] }) low ∙ ap whole_lane (sym lane_is) in
-    let room : get_or counts i 0 < length (lane_on stage i).entries = next_inside stage i is inside more in
+    let space : get_or counts i 0 < length (lane_on stage i).entries = next_inside stage i is inside more in
     record {
       count = count;
       lane_is = sym same;
-      room = omega (arith, count, room, ap (λ (l : WholeLane). length l.entries) same);
+      space = omega (arith, count, space, ap (λ (l : WholeLane). length l.entries) same);
       whole = subst IsWholeLane same (whole_on stage i is inside);
     }
 

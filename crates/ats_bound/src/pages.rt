@@ -51,7 +51,7 @@ impl Pages {
         ensures here { OnOk result ((slot : ℕ) → number ≡ slot + 1 → slot_in self.new.pages doc ≡ Some slot) }
         ensures others { OnOk result ((other : ℕ) → other ≢ doc
             → slot_in self.new.pages other ≡ slot_in self.old.pages other) }
-        ensures kept { OnErr result (self.new.pages.entries ≡ self.old.pages.entries) }
+        ensures same { OnErr result (self.new.pages.entries ≡ self.old.pages.entries) }
     {
         let Ok(number) = u32::try_from(number) else {
             return Err(OutOfMemory);

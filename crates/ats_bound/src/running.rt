@@ -80,8 +80,8 @@ fn meet(known: &mut Known, best: &mut Best, gain: Gain, digit: u32) -> Result<()
     ensures met { OnOk result (Meets known.old known.new gain.doc gain.gain digit) }
     ensures best { OnOk result (AreBest best.old (lows known.old) → AreBest best.new (lows known.new)) }
     ensures size { length best.new ≡ length best.old }
-    ensures kept { OnErr result (known.new ≡ known.old) }
-    ensures kept_best { OnErr result (best.new ≡ best.old) }
+    ensures same { OnErr result (known.new ≡ known.old) }
+    ensures same_best { OnErr result (best.new ≡ best.old) }
 {
     match known.find(gain.doc) {
         Some(slot) => {

@@ -50,7 +50,7 @@ impl Model for Work {
 
 // Sets the first n marks to zero, and ticks for each.
 fn clear(marks: &mut [Mark], n: usize, steps: &mut Steps)
-    requires room { n ≤ length marks.old }
+    requires space { n ≤ length marks.old }
     requires count { steps.old + n < 2 ^ 64 }
     ensures marks { take n marks.new ≡ replicate n zero_mark }
     ensures steps { steps.new ≡ steps.old + n }
@@ -79,7 +79,7 @@ impl Work {
 
     /// Begins `n` marks. The earlier marks are lost.
     pub fn begin(&mut self, n: u32, steps: &mut Steps)
-        requires room { n ≤ self.old.room }
+        requires space { n ≤ self.old.room }
         requires count { steps.old ≤ 2 ^ 63 }
         ensures marks { self.new ≡ begun n self.old.room }
         ensures steps { steps.new ≡ steps.old + n }

@@ -12,7 +12,7 @@ ghost use Rattle.ats_plan.specs.Runs.{IsDone, IsStopped};
 ghost use Rattle.ats_console.specs.Print.{lines_of_documents};
 ghost use Rattle.ats_console.specs.Kinds.{CheckStop, both_kind};
 ghost use Rattle.ats_console.specs.declared.stops.Stop.TheVariants.{Shelf as AtShelf, Memory};
-ghost use Rattle.ats_checkers.specs.Commands.Both.{both_plan};
+ghost use Rattle.ats_checkers.specs.Commands.{both_plan};
 
 use ats_base::Shelf;
 use ats_bound::Work;
@@ -58,14 +58,14 @@ fn both_to_lines<H: Hash32>(
         return Err(Stop::Memory);
     };
     let mut steps = Steps::new(alloc);
-    match check_both::<H>(root, query, &proof, &mut work, &mut steps) {
-        Ok(()) => shown_to_lines(alloc, &proof),
-        Err(refusal) => Err(refused(both_refusal_words(refusal))),
+    if let Err(refusal) = check_both::<H>(root, query, &proof, &mut work, &mut steps) {
+        return Err(refused(both_refusal_words(refusal)));
     }
+    shown_to_lines(alloc, &proof)
 }
 
 /// The lines of `both`. The query is read before the file.
-pub fn both<H: Hash32, S: Shelf>(
+pub(crate) fn both<H: Hash32, S: Shelf>(
     alloc: Global,
     root: &[u8; 32],
     query: &str,

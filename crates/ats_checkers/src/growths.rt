@@ -7,7 +7,7 @@ ghost use Rattle.ats_consistency.specs.Bytes.{IsAcceptedGrowth};
 ghost use Rattle.ats_plan.specs.Runs.{IsDone, IsStopped};
 ghost use Rattle.ats_console.specs.Kinds.{CheckStop, growth_kind, line_of_grown};
 ghost use Rattle.ats_console.specs.declared.stops.Stop.TheVariants.{Shelf as AtShelf, Memory};
-ghost use Rattle.ats_checkers.specs.Commands.Growth.{growth_plan};
+ghost use Rattle.ats_checkers.specs.Commands.{growth_plan};
 
 use ats_base::Shelf;
 use ats_consistency::{GrowthView, check_growth};
@@ -39,7 +39,7 @@ fn growth_to_line<H: Hash32>(
 }
 
 /// The line of `growth`.
-pub fn growth<H: Hash32, S: Shelf>(
+pub(crate) fn growth<H: Hash32, S: Shelf>(
     alloc: Global,
     old: &[u8; 32],
     new: &[u8; 32],

@@ -5,23 +5,64 @@
 //!
 //! The room stands on `ats_plan` and `ats_console` for what a command is and reads, on `ats_client`, `ats_inclusion`,
 //! `ats_conjunction` and `ats_consistency` for the checks, and on `ats_audit`, `ats_fetch`, `ats_both` and `ats_growth` only
-//! for what audits return. Each command comes to the text that its plan allows (`specs/Commands`), or stops as its plan
-//! stops. An accepted file comes with what follows for every archive with the root, and with what each audit of it returns.
-//! `verify_to_lines` is for who checks bytes that came over a link. How a command makes its answer may change freely; the
-//! order in which its inputs are tried may not.
+//! for what audits return. [`answer`] comes to the text that the plan of a command allows (`specs/Commands`), or stops as
+//! its plan stops. An accepted file comes with what follows for every archive with the root, and with what each audit of it
+//! returns. `verify_to_lines` is for who checks bytes that came over a link. How a command makes its answer may change
+//! freely; the order in which its inputs are tried may not.
 //!
 //! ```
 //! // the lines of the rows of the file "answer.proof", or why it is refused
-//! let text = verify::<Sha, _>(alloc, &root, 3, "blood count", "answer.proof", shelf)?;
+//! let command = CheckerCommand::Verify { root, r: 3, query: "blood count", proof: "answer.proof" };
+//! let text = answer::<Sha, _>(alloc, command, shelf)?;
 //! ```
 #![tactic(auto)]
+
+ghost use Rattle.std.specs.Prelude.{◌≡◌, IfOk, IfErr};
+ghost use Rattle.ats_plan.specs.Plan.{ComesToShelf};
+ghost use Rattle.ats_plan.specs.Runs.{IsDone, IsStopped};
+ghost use Rattle.ats_console.specs.Words.{checker_meaning};
+ghost use Rattle.ats_console.specs.declared.stops.Stop.TheVariants.{Shelf as AtShelf, Memory};
+ghost use Rattle.ats_checkers.specs.Commands.{checker_plan};
 
 mod documents;
 mod growths;
 mod texts;
 mod verifying;
 
-pub use documents::both;
-pub use growths::growth;
-pub use texts::fetch;
-pub use verifying::{verify, verify_to_lines};
+use ats_base::Shelf;
+use ats_console::{CheckerCommand, Stop};
+use ats_hash::Hash32;
+use documents::both;
+use growths::growth;
+use std::alloc::Global;
+use texts::fetch;
+use verifying::verify;
+pub use verifying::verify_to_lines;
+
+/// The text of a command that checks, or why it stopped. Nothing is printed.
+pub fn answer<H: Hash32, S: Shelf>(
+    alloc: Global,
+    command: CheckerCommand,
+    shelf: &mut S,
+) -> Result<Vec<u8>, Stop>
+    ensures ok { IfOk result (λ text. IsDone (checker_plan H.hash (checker_meaning command.entry))
+        (S.told shelf.old) (S.told shelf.new) text.items) }
+    ensures stop { IfErr result (IsStopped AtShelf Memory (checker_plan H.hash (checker_meaning command.entry))
+        (S.told shelf.old) (S.told shelf.new)) }
+    ensures unread { (ComesToShelf (checker_plan H.hash (checker_meaning command.entry)) → ⊥)
+        → shelf.new ≡ shelf.old }
+{
+    match command {
+        CheckerCommand::Verify {
+            root,
+            r,
+            query,
+            proof,
+        } => verify::<H, S>(alloc, &root, r, query, proof, shelf),
+        CheckerCommand::Fetch { root, doc, file } => fetch::<H, S>(alloc, &root, doc, file, shelf),
+        CheckerCommand::Both { root, query, proof } => both::<H, S>(
+            alloc, &root, query, proof, shelf,
+        ),
+        CheckerCommand::Growth { old, new, file } => growth::<H, S>(alloc, &old, &new, file, shelf),
+    }
+}

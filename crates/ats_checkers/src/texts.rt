@@ -6,7 +6,7 @@ ghost use Rattle.ats_inclusion.specs.Bytes.{IsAcceptedText};
 ghost use Rattle.ats_plan.specs.Runs.{IsDone, IsStopped};
 ghost use Rattle.ats_console.specs.Kinds.{CheckStop, text_kind, printed_text};
 ghost use Rattle.ats_console.specs.declared.stops.Stop.TheVariants.{Shelf as AtShelf, Memory};
-ghost use Rattle.ats_checkers.specs.Commands.Fetch.{fetch_plan};
+ghost use Rattle.ats_checkers.specs.Commands.{fetch_plan};
 
 use ats_base::Shelf;
 use ats_console::{Stop, TEXT_FILE_LIMIT, print_text, read, refused, rejected};
@@ -38,7 +38,7 @@ fn fetch_to_text<H: Hash32>(
 }
 
 /// The text of `fetch`, and a line feed.
-pub fn fetch<H: Hash32, S: Shelf>(
+pub(crate) fn fetch<H: Hash32, S: Shelf>(
     alloc: Global,
     root: &[u8; 32],
     doc: u32,

@@ -8,7 +8,7 @@ ghost use Rattle.ats_plan.specs.Plan.{ComesToShelf};
 ghost use Rattle.ats_plan.specs.Runs.{IsDone, IsStopped};
 ghost use Rattle.ats_console.specs.Print.{lines};
 ghost use Rattle.ats_console.specs.Kinds.{CheckStop, proof_kind};
-ghost use Rattle.ats_checkers.specs.Commands.Verify.{verify_plan};
+ghost use Rattle.ats_checkers.specs.Commands.{verify_plan};
 ghost use Rattle.ats_console.specs.declared.stops.Stop.TheVariants.{Shelf as AtShelf, Memory};
 
 use ats_base::Shelf;
@@ -45,7 +45,7 @@ pub fn verify_to_lines<H: Hash32>(
 }
 
 /// The lines of `verify`. The words are checked before anything is read.
-pub fn verify<H: Hash32, S: Shelf>(
+pub(crate) fn verify<H: Hash32, S: Shelf>(
     alloc: Global,
     root: &[u8; 32],
     r: u32,

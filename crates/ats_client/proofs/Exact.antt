@@ -35,7 +35,7 @@ module _ (misfit differs : Refusal) (digest : Option (List ℕ)) (root : List �
   one_digest a b (inr is) (inr also) = is.0 ∙ sym also.0
 
   pub digest_exact : (fault : Refusal → Type 0) → ((refusal : Refusal) → fault refusal → IsDigestFault misfit differs digest root refusal)
-      → IsExact (let group : Group Refusal = record { kept = digest ≡ Some root; fault = fault } in group)
+      → IsExact (let group : Group Refusal = record { holds = digest ≡ Some root; fault = fault } in group)
   digest_exact fault reads = record {
     breaks = λ refusal fails. not_digest refusal (reads refusal fails);
     one = λ a b is also. one_digest a b (reads a is) (reads b also);

@@ -38,7 +38,7 @@ pub own_rows_right : (H : List ℕ → List ℕ) (archive : Archive) (query : Li
 own_rows_right H archive query r root proof are asked range size parts accepts own =
     let texts : List (List ℕ) = archive.texts in
     let format : Format = proof.format in
-    let groups = accepts.kept in
+    let groups = accepts.holds in
     let opened = groups.0 in
     let slots = groups.1.1.0 in
     let lists = groups.1.1.1.0 in
@@ -68,12 +68,12 @@ holds_or_some : (P : Type 0) (Q : Difference Place → Type 0) (difference : Opt
 holds_or_some P Q None holds = inl holds
 holds_or_some P Q (Some c) holds = inr refl
 
--- if the rules of what a proof shows are kept, all of it is the archive's own, or there is a collision
+-- if the rules of what a proof shows hold, all of it is the archive's own, or there is a collision
 pub own_or_collides : (H : List ℕ → List ℕ) → ((m : List ℕ) → length (H m) ≡ 32) → (root : List ℕ) (query : List (List ℕ × ℕ)) (proof : Proof) → IsQuery query → IsInRange proof
     → length proof.lists ≡ present_in proof.slots → AllHold (section_rules H root query proof) → (archive : Archive) → AreTexts archive.texts → root_of H archive ≡ root
     → IsOwn H archive query proof ⊎ IsSome (proof_collision H archive query proof)
-own_or_collides H sized root query proof asked range size kept archive are same =
-    let under : AreRooted H (root_of H archive) query proof = subst (λ (digest : List ℕ). AreRooted H digest query proof) (sym same) (sections_rooted H root query proof kept) in
+own_or_collides H sized root query proof asked range size hold archive are same =
+    let under : AreRooted H (root_of H archive) query proof = subst (λ (digest : List ℕ). AreRooted H digest query proof) (sym same) (sections_rooted H root query proof hold) in
     let bound : IsBound H archive query proof = whole-binds H sized archive query proof are asked range (sym size) under in
     let found : proof_collision H archive query proof ≡ first_difference (ours H archive query) (strings_of H query proof) = collision-is-difference H archive query proof bound in
     elim (holds_or_some (IsOwn H archive query proof) (λ c. H c.theirs ≡ H c.ours) (first_difference (ours H archive query) (strings_of H query proof)) bound) [

@@ -13,16 +13,16 @@ use Rattle.ats_client.proofs.Sectioned.{accepted_sections}
 
 -- ---- the rules of what a proof shows
 
-module _ (H : List ℕ → List ℕ) (root : List ℕ) (query : List (List ℕ × ℕ)) (proof : Proof) (kept : AllHold (section_rules H root query proof)) where
+module _ (H : List ℕ → List ℕ) (root : List ℕ) (query : List (List ℕ × ℕ)) (proof : Proof) (hold : AllHold (section_rules H root query proof)) where
   -- each section rebuilds to the root that the proof has for it
   pub sections_rooted : AreRooted H root query proof
   sections_rooted = record {
-    header = kept.0.commits;
-    dictionary = kept.1.0;
-    slots = kept.1.1.0;
-    lists = All-weaker (IsListRight H proof.format proof.met) (IsListRooted H proof.format proof.met) (λ one right. right.root) (presented query proof) kept.1.1.1.0;
-    documents = kept.1.1.1.1.1.0;
-    terms = All-weaker (IsDocumentRight H query (present_numbers proof)) (IsTermsTree H) (λ one right. right.tree) (met_documents proof) kept.1.1.1.1.1.1.0;
+    header = hold.0.commits;
+    dictionary = hold.1.0;
+    slots = hold.1.1.0;
+    lists = All-weaker (IsListRight H proof.format proof.met) (IsListRooted H proof.format proof.met) (λ one right. right.root) (presented query proof) hold.1.1.1.0;
+    documents = hold.1.1.1.1.1.0;
+    terms = All-weaker (IsDocumentRight H query (present_numbers proof)) (IsTermsTree H) (λ one right. right.tree) (met_documents proof) hold.1.1.1.1.1.1.0;
   }
 
 module _ (H : List ℕ → List ℕ) (root : List ℕ) (query : List (List ℕ × ℕ)) (r : ℕ) (proof : Proof) where
@@ -30,7 +30,7 @@ module _ (H : List ℕ → List ℕ) (root : List ℕ) (query : List (List ℕ �
       → AreAllMet (lanes_of query proof) proof.met → IsDocsTree H proof → AreDocumentsRight H query proof → AreRowsRight proof.met proof.answer
       → IsAnswerSettled (bounds_of proof) (lanes_of query proof) proof.met proof.answer r → Accepts H root query r proof
   accepts_each opened dictionary slots lists met tree documents rows settled =
-      record { kept = (opened, (dictionary, (slots, (lists, (met, (tree, (documents, (rows, (settled, tt))))))))) }
+      record { holds = (opened, (dictionary, (slots, (lists, (met, (tree, (documents, (rows, (settled, tt))))))))) }
 
   pub rooted : Accepts H root query r proof → AreRooted H root query proof
   rooted accepts = sections_rooted H root query proof (accepted_sections H root query proof r accepts)

@@ -170,14 +170,14 @@ not_named met notes l named marks x are inside other =
     let here = (are.each x inside).here in
     any_none x named (sym here ∙ other_number (mark_at marks x).list l other)
 
--- the numbers of a mark have room
-pub record HasRoomFor (marks : List Mark) (x : ℕ) : Type 0 where
+-- the numbers of a mark have space
+pub record HasSpaceFor (marks : List Mark) (x : ℕ) : Type 0 where
   pub inside : x < length marks
   pub lo : (mark_at marks x).lo ≤ 2 ^ 38
   pub held : (mark_at marks x).held ≤ 2 ^ 38
 
-pub room_for : (met : ℕ) (notes : List Note) (l : ℕ) (named : List ℕ) (marks : List Mark) (x : ℕ) → AreNotes met notes l named marks → x < met → l ≤ 32 → HasRoomFor marks x
-room_for met notes l named marks x are inside few =
+pub space_for : (met : ℕ) (notes : List Note) (l : ℕ) (named : List ℕ) (marks : List Mark) (x : ℕ) → AreNotes met notes l named marks → x < met → l ≤ 32 → HasSpaceFor marks x
+space_for met notes l named marks x are inside few =
     let is = are.each x inside in
     let size = are.size in
     let early = is.early in

@@ -33,7 +33,7 @@ docs_fault H header met docs DocsRoot fault = inr (refl, fault)
 docs_fault H header met docs _ fault = absurd fault
 
 pub docs_exact : (H : List ℕ → List ℕ) (header : Header) (met : List ℕ) (docs : Option Documents)
-    → IsExact (let group : Group Refusal = record { kept = AreDocsRooted H header met docs; fault = IsDocsRootFault H header met docs } in group)
+    → IsExact (let group : Group Refusal = record { holds = AreDocsRooted H header met docs; fault = IsDocsRootFault H header met docs } in group)
 docs_exact H header met None = record { breaks = λ refusal fault rooted. fault; one = λ a b is also. absurd is }
 docs_exact H header met (Some docs) =
     digest_exact DocsMisfit DocsRoot (docs_digest H header met docs) header.docs_root (IsDocsRootFault H header met (Some docs)) (docs_fault H header met docs)
@@ -115,7 +115,7 @@ module _ (H : List ℕ → List ℕ) (query : List (List ℕ × ℕ)) (numbers :
 
   document_tried : IsDocumentRight H query numbers one ⊎ ((refusal : Refusal) × IsFirstFault (document_rules H query numbers one) refusal)
   document_tried = elim (hold_or_first (document_rules H query numbers one) (terms_tried H one, (slots_tried query numbers one, tt))) [
-    | inl kept ↦ inl (record { tree = kept.0; slots = kept.1.0 })
+    | inl hold ↦ inl (record { tree = hold.0; slots = hold.1.0 })
     | inr first ↦ inr first
   ]
 

@@ -58,7 +58,7 @@ one_settled bounds lanes met answer r NotSettled NotSettled is also = refl
 one_settled bounds lanes met answer r NotSettled _ is also = absurd also
 one_settled bounds lanes met answer r _ b is also = absurd is
 
--- each group of rules fails in one way, and is then not kept
+-- each group of rules fails in one way, and does then not hold
 exact_sections : (H : List ℕ → List ℕ) (root : List ℕ) (query : List (List ℕ × ℕ)) (proof : Proof) → AreExact (section_rules H root query proof)
 exact_sections H root query proof =
     let lanes : List ShownLane = lanes_of query proof in (
@@ -91,14 +91,14 @@ exact_rows query r proof =
 exact : (H : List ℕ → List ℕ) (root : List ℕ) (query : List (List ℕ × ℕ)) (r : ℕ) (proof : Proof) → AreExact (rules H root query r proof)
 exact H root query r proof = exact_both (section_rules H root query proof) (row_rules query r proof) (exact_sections H root query proof) (exact_rows query r proof)
 
--- the rules of what a proof shows: one fails first, and then not all are kept
+-- the rules of what a proof shows: one fails first, and then not all hold
 pub one_section : (H : List ℕ → List ℕ) (root : List ℕ) (query : List (List ℕ × ℕ)) (proof : Proof) (a b : Refusal)
     → IsFirstFault (section_rules H root query proof) a → IsFirstFault (section_rules H root query proof) b → a ≡ b
 one_section H root query proof a b is also = one_first (section_rules H root query proof) a b (exact_sections H root query proof) is also
 
 pub section_rules_do_not_hold : (H : List ℕ → List ℕ) (root : List ℕ) (query : List (List ℕ × ℕ)) (proof : Proof) (refusal : Refusal)
     → IsFirstFault (section_rules H root query proof) refusal → AllHold (section_rules H root query proof) → ⊥
-section_rules_do_not_hold H root query proof refusal is kept = not_all_hold (section_rules H root query proof) refusal (exact_sections H root query proof) is kept
+section_rules_do_not_hold H root query proof refusal is hold = not_all_hold (section_rules H root query proof) refusal (exact_sections H root query proof) is hold
 
 pub one_refusal : (H : List ℕ → List ℕ) (root : List ℕ) (query : List (List ℕ × ℕ)) (r : ℕ) (proof : Proof) (a b : Refusal)
     → IsFirstRefusal H root query r proof a → IsFirstRefusal H root query r proof b → a ≡ b
@@ -107,7 +107,7 @@ one_refusal H root query r proof a b is also = one_first (rules H root query r p
 -- a proof that is accepted is not refused
 pub not_both : (H : List ℕ → List ℕ) (root : List ℕ) (query : List (List ℕ × ℕ)) (r : ℕ) (proof : Proof) (refusal : Refusal)
     → Accepts H root query r proof → IsFirstRefusal H root query r proof refusal → ⊥
-not_both H root query r proof refusal accepts is = not_all_hold (rules H root query r proof) refusal (exact H root query r proof) is.first accepts.kept
+not_both H root query r proof refusal accepts is = not_all_hold (rules H root query r proof) refusal (exact H root query r proof) is.first accepts.holds
 
 pub accepted : (H : List ℕ → List ℕ) (root : List ℕ) (query : List (List ℕ × ℕ)) (r : ℕ) (proof : Proof) (result : Result ℕ Refusal)
     → IfErr result (λ refusal. IsFirstRefusal H root query r proof refusal) → Accepts H root query r proof → is_ok result ≡ true

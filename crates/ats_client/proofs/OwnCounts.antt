@@ -96,14 +96,14 @@ names_met met doc (e ∷ entries) inside some = elim (cases_Bool (nat_eq (met_at
 
 -- ---- a proof
 
--- the rules of what it shows are kept, and all of that is the archive's own
+-- the rules of what it shows hold, and all of that is the archive's own
 pub record ShowsOwn (H : List ℕ → List ℕ) (archive : Archive) (root : List ℕ) (query : List (List ℕ × ℕ)) (proof : Proof) : Type 0 where
   pub are : AreTexts archive.texts
   pub asked : IsQuery query
   pub range : IsInRange proof
   pub enough : present_in proof.slots ≡ length proof.lists
   pub parts : AreDocumentsOf proof proof.docs
-  pub kept : AllHold (section_rules H root query proof)
+  pub holds : AllHold (section_rules H root query proof)
   pub own : IsOwn H archive query proof
 
 module _ (H : List ℕ → List ℕ) (archive : Archive) (root : List ℕ) (query : List (List ℕ × ℕ)) (proof : Proof) (is : ShowsOwn H archive root query proof) where
@@ -117,7 +117,7 @@ module _ (H : List ℕ → List ℕ) (archive : Archive) (root : List ℕ) (quer
   pub absent_lacks : (i : ℕ) (pair : List ℕ × ℕ) (slot : Slot) → slice_get query i ≡ Some pair → slice_get proof.slots i ≡ Some slot
       → slot.present ≡ false → (doc : ℕ) → doc < length texts → nat_lt 0 (count_in texts pair.0 doc) ≡ false
   absent_lacks i pair slot at spot absent doc low =
-      none_has texts pair.0 (absent_none H archive query proof is.are is.asked is.range is.own.terms is.kept.1.1.0 i pair slot at spot absent) doc low
+      none_has texts pair.0 (absent_none H archive query proof is.are is.asked is.range is.own.terms is.holds.1.1.0 i pair slot at spot absent) doc low
 
   -- the number of a present term is that of a term of the query
   within : (k : ℕ) (d : Presented) → k < length ones → (get_or ones k d).number < length query
@@ -125,7 +125,7 @@ module _ (H : List ℕ → List ℕ) (archive : Archive) (root : List ℕ) (quer
       let kept : Presented → PresentTerm = kept_term proof.header.documents in
       let here : get_or (map kept ones) k (kept d) ≡ kept (get_or ones k d) = get_or-map kept ones k d (kept d) low in
       let size = length-map ones kept in
-      subst (λ (t : PresentTerm). t.number < length query) here (kept_within query proof is.kept.0.slots k (kept d) (omega (arith, size, low)))
+      subst (λ (t : PresentTerm). t.number < length query) here (kept_within query proof is.holds.0.slots k (kept d) (omega (arith, size, low)))
 
   -- a whole list names each document that has its term
   lists_all : (one : Presented) → is_whole one ≡ true → HasOwnList texts query one → IsOwnList texts query proof.met one → IsListRight H proof.format proof.met one
@@ -151,15 +151,15 @@ module _ (H : List ℕ → List ℕ) (archive : Archive) (root : List ℕ) (quer
       let here : get_or ones k one ≡ one = any.3 in
       let number : one.number < length query = subst (λ (o : Presented). o.number < length query) here (within k one any.2) in
       lists_all one any.4
-      (subst (HasOwnList texts query) here (each_own H archive query proof is.are is.asked is.range is.own.terms is.kept.1.1.0 is.enough k one any.2))
+      (subst (HasOwnList texts query) here (each_own H archive query proof is.are is.asked is.range is.own.terms is.holds.1.1.0 is.enough k one any.2))
       (subst (IsOwnList texts query proof.met) here (is.own.fronts k one any.2))
-      (subst (IsListRight H proof.format proof.met) here (is.kept.1.1.1.0 k one any.2))
+      (subst (IsListRight H proof.format proof.met) here (is.holds.1.1.1.0 k one any.2))
       doc low (has one.number number)
 
   in_documents : (docs : Option Documents) → proof.docs ≡ docs → (i : ℕ) (one : MetDocument) → slice_get (documents_in proof.met docs) i ≡ Some one → one.doc < length texts
   in_documents None shown i one there = absurd (omega (arith, slice_get_within [] i one there))
   in_documents (Some docs) shown i one there =
-      (own_document H archive query proof is.are is.asked is.range is.enough is.kept.1.1.0 is.kept.0.slots is.own is.kept.1.1.1.1.1.1.0 docs shown i one there).inside
+      (own_document H archive query proof is.are is.asked is.range is.enough is.holds.1.1.0 is.holds.0.slots is.own is.holds.1.1.1.1.1.1.0 docs shown i one there).inside
 
   -- a met document is one of the texts
   pub met_inside : (i : ℕ) (one : MetDocument) → slice_get (met_documents proof) i ≡ Some one → one.doc < length texts
@@ -172,7 +172,7 @@ module _ (H : List ℕ → List ℕ) (archive : Archive) (root : List ℕ) (quer
   slots_in (Some docs) shown i one there k d low =
       let term : List ℕ = asked_term query (get_or ones k d).number in
       let slot : HasOwnSlot texts one k term =
-      own_slot H archive query proof is.are is.asked is.range is.enough is.kept.1.1.0 is.kept.0.slots is.own is.kept.1.1.1.1.1.1.0 docs shown i one there k low d in
+      own_slot H archive query proof is.are is.asked is.range is.enough is.holds.1.1.0 is.holds.0.slots is.own is.holds.1.1.1.1.1.1.0 docs shown i one there k low d in
       slot_own texts one.doc slot.inside one.section slot.ranges slot.leaves k term slot.is_term slot.shows
 
   -- its slots say which of the present terms it has
@@ -180,7 +180,7 @@ module _ (H : List ℕ → List ℕ) (archive : Archive) (root : List ℕ) (quer
       → (slot_at one.section.slots k).present ≡ nat_lt 0 (count_in texts (asked_term query number) one.doc)
   slots_tell i one there k number at =
       let none : Presented = record { number = 0; weight = 0; entry = record { term = []; f = 0; root = [] }; prefix = record { entries = []; digests = [] } } in
-      let numbers = presented_numbers query proof is.kept.0.slots in
+      let numbers = presented_numbers query proof is.holds.0.slots in
       let size = length-map ones (λ (one : Presented). one.number) in
       let low : k < length ones = omega (arith, slice_get_within (present_numbers proof) k number at, ap (λ (ns : List ℕ). length ns) numbers, size) in
       let same : (get_or ones k none).number ≡ number =

@@ -10,9 +10,9 @@ pub use Rattle.ats_client.proofs.OneRejection.{one_rejection}
 pub use Rattle.ats_client.proofs.HeadlineBrackets.{looked_same}
 -- an accepted proof in range has, for each archive with the root, right rows or a collision
 pub use Rattle.ats_client.proofs.Headline.{top_or_collides}
--- if the rules of what a proof shows are kept, all of it is the archive's own or there is a collision
+-- if the rules of what a proof shows hold, all of it is the archive's own or there is a collision
 pub use Rattle.ats_client.proofs.Headline.{own_or_collides}
--- if a rule of what a proof shows fails first, not all are kept
+-- if a rule of what a proof shows fails first, not all hold
 pub use Rattle.ats_client.proofs.OneRefusal.{section_rules_do_not_hold}
 -- one rule of what a proof shows fails first
 pub use Rattle.ats_client.proofs.OneRefusal.{one_section}
@@ -20,7 +20,7 @@ pub use Rattle.ats_client.proofs.OneRefusal.{one_section}
 pub use Rattle.ats_client.proofs.Sectioned.{never_unsettled}
 -- a refused proof without rows breaks a rule of what it shows, or keeps them and is not settled
 pub use Rattle.ats_client.proofs.Sectioned.{refused_sections}
--- the rules of what a proof shows are kept, and all of that is the archive's own
+-- the rules of what a proof shows hold, and all of that is the archive's own
 pub use Rattle.ats_client.proofs.OwnCounts.{ShowsOwn}
 -- a number below n is one of the numbers from 0 on, n of them
 pub use Rattle.ats_client.proofs.OwnCounts.{below_in}

@@ -10,7 +10,7 @@ use Rattle.ats_client.specs.Documents.{IsDocsRootFault, IsDocumentsFault, docume
 use Rattle.ats_client.specs.Groups.{IsListsFault, IsRowsFault, IsSettledFault, list_rules}
 use Rattle.ats_client.specs.Bracketing.{bounds_of}
 use Rattle.ats_client.specs.Presented.{lanes_of}
-use Rattle.ats_client.proofs.TwoRuns.{first_kept, first_or_second, none_first}
+use Rattle.ats_client.proofs.TwoRuns.{first_hold, first_or_second, none_first}
 
 module _ (H : List ℕ → List ℕ) (root : List ℕ) (query : List (List ℕ × ℕ)) (proof : Proof) where
   -- ---- a section is never called unsettled
@@ -57,4 +57,4 @@ module _ (H : List ℕ → List ℕ) (root : List ℕ) (query : List (List ℕ �
   ]
 
   pub accepted_sections : (r : ℕ) → Accepts H root query r proof → AllHold (section_rules H root query proof)
-  accepted_sections r accepts = first_kept (section_rules H root query proof) (row_rules query r proof) accepts.kept
+  accepted_sections r accepts = first_hold (section_rules H root query proof) (row_rules query r proof) accepts.holds

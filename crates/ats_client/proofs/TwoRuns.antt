@@ -3,17 +3,17 @@ use Rattle.std.proofs.Common.{◌⊎◌, ℕ, zero, suc, List, [], ◌∷◌, �
 use Rattle.ats_base.specs.Rules.{Group, AllHold, IsFirstFault}
 use Rattle.ats_base.proofs.Public.{AreExact}
 
--- if each group of both runs fails in one way, and is then not kept, so does each of all
+-- if each group of both runs fails in one way, and is then not holds, so does each of all
 pub exact_both : {F : Type 0} (a b : List (Group F)) → AreExact a → AreExact b → AreExact (a ++ b)
 exact_both [] b first second = second
 exact_both (group ∷ a) b first second = (first.0, exact_both a b first.1 second)
 
--- if all groups are kept, those of the first run are
-pub first_kept : {F : Type 0} (a b : List (Group F)) → AllHold (a ++ b) → AllHold a
-first_kept [] b kept = tt
-first_kept (group ∷ a) b kept = (kept.0, first_kept a b kept.1)
+-- if all groups are holds, those of the first run are
+pub first_hold : {F : Type 0} (a b : List (Group F)) → AllHold (a ++ b) → AllHold a
+first_hold [] b holds = tt
+first_hold (group ∷ a) b holds = (holds.0, first_hold a b holds.1)
 
--- the first failure is one of the first run, or the first run is kept and it is one of the second
+-- the first failure is one of the first run, or the first run is holds and it is one of the second
 pub first_or_second : {F : Type 0} (a b : List (Group F)) (fault : F) → IsFirstFault (a ++ b) fault → IsFirstFault a fault ⊎ (AllHold a × IsFirstFault b fault)
 first_or_second [] b fault is = inr (tt, is)
 first_or_second (group ∷ a) b fault (inl here) = inl (inl here)
@@ -32,14 +32,14 @@ none_first [] fault none is = is
 none_first (group ∷ groups) fault none (inl here) = none.0 here
 none_first (group ∷ groups) fault none (inr later) = none_first groups fault none.1 later.1
 
--- what follows if this many groups are kept and the next one fails in this way
-abbrev pub AfterKept : {F : Type 0} → ℕ → List (Group F) → F → Type 0 → Type 0
-AfterKept n [] fault Follows = Unit {0}
-AfterKept zero (group ∷ groups) fault Follows = group.fault fault → Follows
-AfterKept (suc n) (group ∷ groups) fault Follows = group.kept → AfterKept n groups fault Follows
+-- what follows if this many groups are holds and the next one fails in this way
+abbrev pub AfterHolding : {F : Type 0} → ℕ → List (Group F) → F → Type 0 → Type 0
+AfterHolding n [] fault Follows = Unit {0}
+AfterHolding zero (group ∷ groups) fault Follows = group.fault fault → Follows
+AfterHolding (suc n) (group ∷ groups) fault Follows = group.holds → AfterHolding n groups fault Follows
 
 -- the failure is then the first
-pub first_after : {F : Type 0} (n : ℕ) (groups : List (Group F)) (fault : F) (Follows : Type 0) → (IsFirstFault groups fault → Follows) → AfterKept n groups fault Follows
+pub first_after : {F : Type 0} (n : ℕ) (groups : List (Group F)) (fault : F) (Follows : Type 0) → (IsFirstFault groups fault → Follows) → AfterHolding n groups fault Follows
 first_after n [] fault Follows gives = tt
 first_after zero (group ∷ groups) fault Follows gives = λ is. gives (inl is)
-first_after (suc n) (group ∷ groups) fault Follows gives = λ kept. first_after n groups fault Follows (λ later. gives (inr (kept, later)))
+first_after (suc n) (group ∷ groups) fault Follows gives = λ holds. first_after n groups fault Follows (λ later. gives (inr (holds, later)))

@@ -11,21 +11,21 @@ use Rattle.ats_client.specs.Groups.{IsOpened, IsOpeningFault, IsDictionary, IsDi
 -- the rules of what a proof shows, in their order; those of the documents hold for every TNRA proof
 abbrev pub section_rules : (List ℕ → List ℕ) → List ℕ → List (List ℕ × ℕ) → Proof → List (Group Refusal)
 section_rules H root query proof =
-    record { kept = IsOpened H root query proof; fault = IsOpeningFault H root query proof }
-    ∷ record { kept = IsDictionary H proof; fault = IsDictFault H proof }
-    ∷ record { kept = AreSlotsRight query proof; fault = IsSlotsFault query proof }
-    ∷ record { kept = AreListsRight H query proof; fault = IsListsFault H query proof }
-    ∷ record { kept = AreAllMet (lanes_of query proof) proof.met; fault = IsMetFault (lanes_of query proof) proof.met }
-    ∷ record { kept = IsDocsTree H proof; fault = IsDocsFault H proof }
-    ∷ record { kept = AreDocumentsRight H query proof; fault = IsDocumentsFault H query proof }
+    record { holds = IsOpened H root query proof; fault = IsOpeningFault H root query proof }
+    ∷ record { holds = IsDictionary H proof; fault = IsDictFault H proof }
+    ∷ record { holds = AreSlotsRight query proof; fault = IsSlotsFault query proof }
+    ∷ record { holds = AreListsRight H query proof; fault = IsListsFault H query proof }
+    ∷ record { holds = AreAllMet (lanes_of query proof) proof.met; fault = IsMetFault (lanes_of query proof) proof.met }
+    ∷ record { holds = IsDocsTree H proof; fault = IsDocsFault H proof }
+    ∷ record { holds = AreDocumentsRight H query proof; fault = IsDocumentsFault H query proof }
     ∷ []
 
 -- the rules of the rows of an answer, in their order
 abbrev pub row_rules : List (List ℕ × ℕ) → ℕ → Proof → List (Group Refusal)
 row_rules query r proof =
-    record { kept = AreRowsRight proof.met proof.answer; fault = IsRowsFault proof.met proof.answer }
+    record { holds = AreRowsRight proof.met proof.answer; fault = IsRowsFault proof.met proof.answer }
     ∷ record {
-      kept = IsAnswerSettled (bounds_of proof) (lanes_of query proof) proof.met proof.answer r;
+      holds = IsAnswerSettled (bounds_of proof) (lanes_of query proof) proof.met proof.answer r;
       fault = IsSettledFault (bounds_of proof) (lanes_of query proof) proof.met proof.answer r;
     }
     ∷ []
@@ -36,7 +36,7 @@ rules H root query r proof = section_rules H root query proof ++ row_rules query
 
 -- all rules hold
 pub record Accepts (H : List ℕ → List ℕ) (root : List ℕ) (query : List (List ℕ × ℕ)) (r : ℕ) (proof : Proof) : Type 0 where
-  pub kept : AllHold (rules H root query r proof)
+  pub holds : AllHold (rules H root query r proof)
 
 -- the first rule that the proof breaks
 pub record IsFirstRefusal (H : List ℕ → List ℕ) (root : List ℕ) (query : List (List ℕ × ℕ)) (r : ℕ) (proof : Proof) (refusal : Refusal) : Type 0 where

@@ -112,8 +112,8 @@ IsTermSlotsFault query numbers one _ = ⊥
 -- the rules of one met document: its tree first, then its slots
 abbrev pub document_rules : (List ℕ → List ℕ) → List (List ℕ × ℕ) → List ℕ → MetDocument → List (Group Refusal)
 document_rules H query numbers one =
-    record { kept = IsTermsTree H one; fault = IsTermsFault H one }
-    ∷ record { kept = AreTermSlotsRight query numbers one.section; fault = IsTermSlotsFault query numbers one }
+    record { holds = IsTermsTree H one; fault = IsTermsFault H one }
+    ∷ record { holds = AreTermSlotsRight query numbers one.section; fault = IsTermSlotsFault query numbers one }
     ∷ []
 
 -- what is shown of the document's terms is its own tree's, and its slots show the present terms

@@ -116,8 +116,8 @@ IsListRootFault H format met one _ = ⊥
 -- the rules of one present term: its entries first, then its digest
 abbrev pub list_rules : (List ℕ → List ℕ) → Format → List ℕ → Presented → List (Group Refusal)
 list_rules H format met one =
-    record { kept = AreNames (length met) (indexes_of one.prefix.entries); fault = IsEntryFault (length met) one }
-    ∷ record { kept = IsListRooted H format met one; fault = IsListRootFault H format met one }
+    record { holds = AreNames (length met) (indexes_of one.prefix.entries); fault = IsEntryFault (length met) one }
+    ∷ record { holds = IsListRooted H format met one; fault = IsListRootFault H format met one }
     ∷ []
 
 abbrev pub IsListFault : (List ℕ → List ℕ) → Format → List ℕ → Presented → Refusal → Type 0

@@ -32,7 +32,7 @@ pub(crate) fn lists<'a, H: Hash32>(
     requires right { AreSlotsRight query.now proof.now }
     requires none { terms.old ≡ [] }
     requires work { length proof.now.met ≤ work.old.room }
-    requires room { steps.old ≤ 2 ^ 62 + 2 ^ 42 }
+    requires space { steps.old ≤ 2 ^ 62 + 2 ^ 42 }
     ensures fault { IfErr result (IsListsFault H.hash query.now proof.now) }
     ensures right { OnOk result (AreListsRight H.hash query.now proof.now) }
     ensures terms { OnOk result (terms.new ≡ kept_terms query.now proof.now) }

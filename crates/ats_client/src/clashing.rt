@@ -80,7 +80,7 @@ fn header<'a, H: Hash32, O: OwnStrings<H>>(
     proof: &ProofView<'a>,
     steps: &mut Steps,
 ) -> Option<Clash>
-    requires room { steps.old ≤ 2 ^ 63 }
+    requires space { steps.old ≤ 2 ^ 63 }
     ensures clash { option_map difference_of result
         ≡ first_collision H.hash (ours H.hash (O.archive own.now) query.now)
         (hashed_header proof.now.format proof.now.header ∷ []) }
@@ -123,7 +123,7 @@ fn in_tree<'a, H: Hash32, O: OwnStrings<H>, R: Revealed<'a> + Copy>(
     requires few { front ≤ 65536 }
     requires front { format ≡ Two → positions_of (R.shown revealed.old) ≡ range_with_len 0 front }
     requires short { All (λ s. length s.1 ≤ 127) (R.shown revealed.old) }
-    requires room { steps.old ≤ 2 ^ 63 }
+    requires space { steps.old ≤ 2 ^ 63 }
     ensures clash { option_map difference_of result
         ≡ first_collision H.hash (ours H.hash (O.archive own.now) query.now)
         (map (moved (in_tree tree)) (prefix_strings H.hash format leaves (R.shown revealed.old) (R.digests revealed.old))) }
@@ -178,8 +178,8 @@ fn dictionary<'a, H: Hash32, O: OwnStrings<H>>(
     proof: &ProofView<'a>,
     steps: &mut Steps,
 ) -> Option<Clash>
-    requires kept { IsDictionary H.hash proof.now }
-    requires room { steps.old ≤ 2 ^ 63 }
+    requires rooted { IsDictionary H.hash proof.now }
+    requires space { steps.old ≤ 2 ^ 63 }
     ensures clash { option_map difference_of result ≡ first_collision H.hash (ours H.hash (O.archive own.now) query.now)
         (strings_in H.hash Tree.Dictionary proof.now.header.dict_leaves
         (map shown_entry proof.now.dict) proof.now.dict_digests) }
@@ -213,7 +213,7 @@ fn list<'a, H: Hash32, O: OwnStrings<H>>(
     requires few { one.now.number < 32 }
     requires range { IsPrefixInRange (prefix_of one.now.list) }
     requires right { IsListRight H.hash proof.now.format proof.now.met (presented_of one.now) }
-    requires room { steps.old ≤ 2 ^ 63 }
+    requires space { steps.old ≤ 2 ^ 63 }
     ensures clash { option_map difference_of result ≡ first_collision H.hash (ours H.hash (O.archive own.now) query.now)
         (list_strings H.hash proof.now.format proof.now.met (presented_of one.now)) }
     ensures cost { steps.new ≤ steps.old + 2 ^ 35 }
@@ -242,7 +242,7 @@ fn lists<'a, H: Hash32, O: OwnStrings<H>>(
     requires each { length proof.now.slots ≡ length query.now }
     requires slots { AreSlotsRight query.now proof.now }
     requires right { AreListsRight H.hash query.now proof.now }
-    requires room { steps.old ≤ 2 ^ 62 }
+    requires space { steps.old ≤ 2 ^ 62 }
     ensures clash { option_map difference_of result ≡ first_collision H.hash (ours H.hash (O.archive own.now) query.now)
         (flat_map (list_strings H.hash proof.now.format proof.now.met) (presented query.now proof.now)) }
     ensures cost { steps.new ≤ steps.old + 2 ^ 41 }
@@ -269,7 +269,7 @@ fn documents<'a, H: Hash32, O: OwnStrings<H>>(
 ) -> Option<Clash>
     requires tree { IsDocsTree H.hash proof.now }
     requires terms { All (IsTermsTree H.hash) (met_documents proof.now) }
-    requires room { steps.old ≤ 2 ^ 62 }
+    requires space { steps.old ≤ 2 ^ 62 }
     ensures { option_map difference_of result ≡ first_collision H.hash (ours H.hash (O.archive own.now) query.now)
         (documents_strings H.hash proof.now.header proof.now.met proof.now.docs) }
 {
@@ -304,7 +304,7 @@ fn each<'a, H: Hash32, O: OwnStrings<H>>(
     requires range { AreDocumentsInRange (documents_of docs) }
     requires right { All (IsTermsTree H.hash)
         (documents_from proof.now.met (documents_of docs).leaves (documents_of docs).sections) }
-    requires room { steps.old ≤ 2 ^ 62 + 2 ^ 50 }
+    requires space { steps.old ≤ 2 ^ 62 + 2 ^ 50 }
     ensures { option_map difference_of result ≡ first_collision H.hash (ours H.hash (O.archive own.now) query.now)
         (flat_map (terms_strings H.hash)
         (documents_from proof.now.met (documents_of docs.entry).leaves (documents_of docs.entry).sections)) }
@@ -331,7 +331,7 @@ fn terms<'a, H: Hash32, O: OwnStrings<H>>(
 ) -> Option<Clash>
     requires range { IsSectionInRange (document_of doc.now).section }
     requires right { IsTermsTree H.hash (document_of doc.now) }
-    requires room { steps.old ≤ 2 ^ 63 }
+    requires space { steps.old ≤ 2 ^ 63 }
     ensures clash { option_map difference_of result
         ≡ first_collision H.hash (ours H.hash (O.archive own.now) query.now)
         (terms_strings H.hash (document_of doc.now)) }

@@ -29,8 +29,8 @@ use ats_terms::Query;
 
 // Checks that what is shown of the document's terms is part of the tree that its leaf names.
 fn rooted<'a, H: Hash32>(doc: &DocView<'a>, steps: &mut Steps) -> Result<(), Refusal>
-    requires room { steps.old ≤ 2 ^ 63 }
-    ensures kept { OnOk result (IsTermsTree H.hash (document_of doc.now)) }
+    requires space { steps.old ≤ 2 ^ 63 }
+    ensures holds { OnOk result (IsTermsTree H.hash (document_of doc.now)) }
     ensures fault { IfErr result (IsTermsFault H.hash (document_of doc.now)) }
     ensures cost { steps.new ≤ steps.old + 2 ^ 34 }
     ensures most { steps.new
@@ -59,7 +59,7 @@ fn impact<'a>(
     requires within { i < length (section_of doc.now).slots }
     requires number { number < length query.now }
     requires leaves { terms_left walk.old.all ≡ (section_of doc.now).leaves }
-    requires room { steps.old ≤ 2 ^ 62 + 2 ^ 58 }
+    requires space { steps.old ≤ 2 ^ 62 + 2 ^ 58 }
     ensures right { OnOk result
         (ShowsTerm (map term_shown (section_of doc.now).leaves) (asked_term query.now number)
         (slot_at (section_of doc.now).slots i)) }
@@ -101,7 +101,7 @@ pub(crate) fn document<'a, H: Hash32>(
     requires each { length (section_of doc.now).slots ≡ length terms.now }
     requires spots { IsNonDecreasing (map (λ (slot : Slot). slot.index) (section_of doc.now).slots) }
     requires numbers { All (λ (term : PresentTerm). term.number < length query.now) terms.now }
-    requires room { steps.old ≤ 2 ^ 62 + 2 ^ 56 }
+    requires space { steps.old ≤ 2 ^ 62 + 2 ^ 56 }
     ensures right { OnOk result (IsDocumentRight H.hash query.now (numbers_of terms.now) (document_of doc.now)) }
     ensures score { IfOk result (λ score. score
         ≡ looked_score (λ i other. impact_shown (section_of doc.now) i) (bare_lanes terms.now)

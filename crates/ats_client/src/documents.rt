@@ -25,8 +25,8 @@ pub(crate) fn documents_tree<H: Hash32>(
     proof: &ProofView<'_>,
     steps: &mut Steps,
 ) -> Result<(), Refusal>
-    requires room { steps.old ≤ 2 ^ 63 }
-    ensures kept { OnOk result (IsDocsTree H.hash proof.now) }
+    requires space { steps.old ≤ 2 ^ 63 }
+    ensures holds { OnOk result (IsDocsTree H.hash proof.now) }
     ensures fault { IfErr result (IsDocsFault H.hash proof.now) }
     ensures cost { steps.new ≤ steps.old + 2 ^ 34 }
     ensures most { steps.new ≤ steps.old + 3 * items_of_documents proof.now.docs + 1 }
@@ -48,7 +48,7 @@ pub(crate) fn documents_tree<H: Hash32>(
 // Notes the score of a met document in its mark. All of the threshold is held, so both bounds are this score.
 fn noted(work: &mut Work, index: u32, score: u64, threshold: u64, steps: &mut Steps)
     requires inside { index < length work.old.marks }
-    requires room { steps.old ≤ 2 ^ 63 }
+    requires space { steps.old ≤ 2 ^ 63 }
     ensures marks { work.new.marks ≡ slice_set work.old.marks index
         (record {
           lo = score;
@@ -83,7 +83,7 @@ pub(crate) fn documents<'a, H: Hash32>(
     requires marks { AreMarks bracket (lanes_of query.now proof.now) proof.now.met work.old.marks }
     requires free { AreNoted [] work.old.marks }
     requires threshold { threshold ≡ threshold_of (lanes_of query.now proof.now) }
-    requires room { steps.old ≤ 2 ^ 62 + 2 ^ 50 }
+    requires space { steps.old ≤ 2 ^ 62 + 2 ^ 50 }
     ensures right { OnOk result (AreDocumentsRight H.hash query.now proof.now) }
     ensures marks { OnOk result
         (AreMarks (bounds_of proof.now) (lanes_of query.now proof.now) proof.now.met work.new.marks) }

@@ -17,7 +17,7 @@ use ats_refusal::Refusal;
 /// The impact that no entry outside the prefix exceeds, if the list has `total` entries.
 #[tactic(auto, unfolding(crate::specs::Inner::SeenLists::prefix_of))]
 pub(crate) fn rest_impact(list: &ListView<'_>, total: u32, steps: &mut Steps) -> u16
-    requires room { steps.old ≤ 2 ^ 63 }
+    requires space { steps.old ≤ 2 ^ 63 }
     ensures value { result
         ≡ rest_impact (record { coefficient = 0; total = total; shown = (prefix_of list.now).entries }) }
     ensures cost { steps.new ≤ steps.old + 1 }
@@ -35,7 +35,7 @@ fn noted(work: &mut Work, index: u32, list: u32, gain: u64, rest: u64, steps: &m
     requires inside { index < length work.old.marks }
     requires lo { (mark_at work.old.marks index).lo + gain < 2 ^ 64 }
     requires held { (mark_at work.old.marks index).held + rest < 2 ^ 64 }
-    requires room { steps.old ≤ 2 ^ 63 }
+    requires space { steps.old ≤ 2 ^ 63 }
     ensures first { IsTrue result ↔ ((mark_at work.old.marks index).list ≢ list) }
     ensures marks { IsTrue result
         → work.new ≡ record {
@@ -82,7 +82,7 @@ pub(crate) fn entries(
     requires coefficient { coefficient ≤ 2 ^ 17 }
     requires rest { rest ≤ 2 ^ 33 }
     requires notes { (notes : List Note) × AreNotes met notes (one.now.number + 1) [] work.old.marks }
-    requires room { steps.old ≤ 2 ^ 62 + 2 ^ 50 }
+    requires space { steps.old ≤ 2 ^ 62 + 2 ^ 50 }
     ensures fault { IfErr result (IsEntryFault met (presented_of one.now)) }
     ensures names { OnOk result (AreNames met (indexes_of (prefix_of one.now.list).entries)) }
     ensures notes { OnOk result ((notes : List Note) → AreNotes met notes (one.now.number + 1) [] work.old.marks

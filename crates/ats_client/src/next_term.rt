@@ -16,7 +16,7 @@ use ats_terms::Query;
 // The first prefix left.
 #[tactic(auto, unfolding(crate::specs::Inner::SeenLists::prefixes_left, crate::specs::Inner::SeenLists::prefix_of))]
 fn next_list<'a>(left: &mut ListsView<'a>, steps: &mut Steps) -> Option<ListView<'a>>
-    requires room { steps.old ≤ 2 ^ 63 }
+    requires space { steps.old ≤ 2 ^ 63 }
     ensures first { option_map prefix_of result ≡ slice_get (prefixes_left left.old) 0 }
     ensures passed { prefixes_left left.new ≡ drop 1 (prefixes_left left.old) }
     ensures cost { steps.new ≤ steps.old + 1 }
@@ -38,7 +38,7 @@ pub(crate) fn present<'a>(
     requires right { IsSlotRight query.now proof.now i }
     requires dict { entries_left walk.old.all ≡ proof.now.dict }
     requires enough { present_in (drop i proof.now.slots) ≡ length (prefixes_left left.old) }
-    requires room { steps.old ≤ 2 ^ 62 + 2 ^ 45 }
+    requires space { steps.old ≤ 2 ^ 62 + 2 ^ 45 }
     ensures some { IfSome result
         (λ one. presented_from proof.now.dict i (drop i query.now) (drop i proof.now.slots) (prefixes_left left.old)
         ≡ presented_of one ∷ presented_from proof.now.dict (i + 1)
@@ -51,7 +51,7 @@ pub(crate) fn present<'a>(
     ensures enough { present_in (drop (i + 1) proof.now.slots) ≡ length (prefixes_left left.new) }
     ensures dict { walk.new.all ≡ walk.old.all }
     ensures taken { IfSome result (λ one. prefixes_left left.old ≡ prefix_of one.list ∷ prefixes_left left.new) }
-    ensures kept { IfNone result (prefixes_left left.new ≡ prefixes_left left.old) }
+    ensures same { IfNone result (prefixes_left left.new ≡ prefixes_left left.old) }
     ensures before { walk.old.place ≤ (slot_at proof.now.slots i).index
         → walk.new.place ≤ (slot_at proof.now.slots i).index }
     ensures cost { steps.new ≤ steps.old + 2 ^ 17 }

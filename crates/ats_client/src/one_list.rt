@@ -35,7 +35,7 @@ fn rebuilt_list<'a, H: Hash32, R: Revealed<'a>>(
     requires few { k ≤ 65536 }
     requires front { positions_of (R.shown revealed.old) ≡ range_with_len 0 k }
     requires size { length (R.shown revealed.old) ≡ k }
-    requires room { steps.old ≤ 2 ^ 63 }
+    requires space { steps.old ≤ 2 ^ 63 }
     ensures digest { result ≡ prefix_root H.hash format f (R.shown revealed.old) (R.digests revealed.old) }
     ensures cost { steps.new ≤ steps.old + 3 * f + 1 }
     ensures most { steps.new ≤ steps.old + 3 * k + 2 * length (R.digests revealed.old) + 1 }
@@ -55,8 +55,8 @@ fn rooted<'a, H: Hash32>(
 ) -> Result<(), Refusal>
     requires named { All (λ e. e.doc < length proof.now.met) (prefix_of one.now.list).entries }
     requires range { IsPrefixInRange (prefix_of one.now.list) }
-    requires room { steps.old ≤ 2 ^ 63 }
-    ensures kept { OnOk result
+    requires space { steps.old ≤ 2 ^ 63 }
+    ensures holds { OnOk result
         (list_digest H.hash proof.now.format proof.now.met (presented_of one.now)
         ≡ Some (presented_of one.now).entry.root) }
     ensures fault { IfErr result (IsListRootFault H.hash proof.now.format proof.now.met (presented_of one.now)) }
@@ -95,7 +95,7 @@ pub(crate) fn list<'a, H: Hash32>(
     requires small { coefficient ≤ 2 ^ 17 }
     requires notes { (notes : List Note)
         × AreNotes (length proof.now.met) notes (one.now.number + 1) [] work.old.marks }
-    requires room { steps.old ≤ 2 ^ 62 + 2 ^ 45 }
+    requires space { steps.old ≤ 2 ^ 62 + 2 ^ 45 }
     ensures fault { IfErr result (IsListFault H.hash proof.now.format proof.now.met (presented_of one.now)) }
     ensures right { OnOk result (IsListRight H.hash proof.now.format proof.now.met (presented_of one.now)) }
     ensures notes { OnOk result

@@ -18,7 +18,7 @@ pub(crate) fn rebuilt<'a, H: Hash32, R: Revealed<'a>>(
     revealed: &mut R,
     steps: &mut Steps,
 ) -> Option<[u8; 32]>
-    requires room { steps.old ≤ 2 ^ 63 }
+    requires space { steps.old ≤ 2 ^ 63 }
     ensures digest { result ≡ rebuilt H.hash n (R.shown revealed.old) (R.digests revealed.old) }
     ensures cost { steps.new ≤ steps.old + 3 * n }
     ensures most { steps.new ≤ steps.old + 3 * length (R.shown revealed.old) + 2 * length (R.digests revealed.old) + 1 }
@@ -36,8 +36,8 @@ pub(crate) fn opened<H: Hash32>(
     proof: &ProofView<'_>,
     steps: &mut Steps,
 ) -> Result<(), Refusal>
-    requires room { steps.old ≤ 2 ^ 63 }
-    ensures kept { OnOk result (IsOpened H.hash root.now query.now proof.now) }
+    requires space { steps.old ≤ 2 ^ 63 }
+    ensures holds { OnOk result (IsOpened H.hash root.now query.now proof.now) }
     ensures asked { OnOk result (IsQuery query.now) }
     ensures fault { IfErr result (IsOpeningFault H.hash root.now query.now proof.now) }
     ensures cost { steps.new ≤ steps.old + 1 }
@@ -54,8 +54,8 @@ pub(crate) fn opened<H: Hash32>(
 
 /// Checks that the dictionary section is part of the header's dictionary.
 pub(crate) fn dictionary<H: Hash32>(proof: &ProofView<'_>, steps: &mut Steps) -> Result<(), Refusal>
-    requires room { steps.old ≤ 2 ^ 63 }
-    ensures kept { OnOk result (IsDictionary H.hash proof.now) }
+    requires space { steps.old ≤ 2 ^ 63 }
+    ensures holds { OnOk result (IsDictionary H.hash proof.now) }
     ensures fault { IfErr result (IsDictFault H.hash proof.now) }
     ensures cost { steps.new ≤ steps.old + 2 ^ 34 }
     ensures most { steps.new

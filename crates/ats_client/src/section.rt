@@ -41,7 +41,7 @@ pub(crate) trait Section: Copy {
 
     /// Removes the first leaf left. Returns false if none is left.
     fn pass(&mut self, steps: &mut Steps) -> bool
-        requires room { steps.old ≤ 2 ^ 63 + 2 ^ 16 }
+        requires space { steps.old ≤ 2 ^ 63 + 2 ^ 16 }
         ensures end { IsTrue result ⊎ (leaves self.old ≡ []) }
         ensures passed { leaves self.new ≡ drop 1 (leaves self.old) }
         ensures cost { steps.new ≤ steps.old + 1 }
@@ -50,7 +50,7 @@ pub(crate) trait Section: Copy {
 
 /// The section without its first `count` leaves, or without all if there are fewer.
 pub(crate) fn passed<S: Section>(section: S, count: u16, steps: &mut Steps) -> S
-    requires room { steps.old ≤ 2 ^ 63 }
+    requires space { steps.old ≤ 2 ^ 63 }
     ensures passed { S.leaves result ≡ drop count (S.leaves section) }
     ensures cost { steps.new ≤ steps.old + count }
     ensures most { steps.new + length (S.leaves result) ≤ steps.old + length (S.leaves section) }

@@ -12,8 +12,8 @@ use ats_terms::Query;
 /// Checks that the slot of each term shows it in the dictionary section.
 pub(crate) fn slots(query: &Query, proof: &ProofView<'_>, steps: &mut Steps) -> Result<(), Refusal>
     requires each { length proof.now.slots ≡ length query.now }
-    requires room { steps.old ≤ 2 ^ 62 + 2 ^ 40 }
-    ensures kept { OnOk result (AreSlotsRight query.now proof.now) }
+    requires space { steps.old ≤ 2 ^ 62 + 2 ^ 40 }
+    ensures holds { OnOk result (AreSlotsRight query.now proof.now) }
     ensures fault { IfErr result (IsSlotsFault query.now proof.now) }
     ensures cost { steps.new ≤ steps.old + 2 ^ 24 }
     ensures most { steps.new ≤ steps.old + length proof.now.dict + 2 * length proof.now.slots }

@@ -34,7 +34,7 @@ impl<S: Section> Walk<S> {
 
     /// The leaf at a place. The walk goes there.
     pub(crate) fn leaf(&mut self, place: u16, steps: &mut Steps) -> Option<S::Leaf>
-        requires room { steps.old ≤ 2 ^ 63 }
+        requires space { steps.old ≤ 2 ^ 63 }
         ensures same { self.new.all ≡ self.old.all }
         ensures leaf { option_map S.item result ≡ slice_get (S.leaves self.old.all) place }
         ensures left { S.leaves self.new.left ≡ drop place (S.leaves self.old.all) }
@@ -57,7 +57,7 @@ impl<S: Section> Walk<S> {
 
     /// Whether the slot shows the term.
     pub(crate) fn shows(&mut self, term: &[u8], slot: Slot, steps: &mut Steps) -> bool
-        requires room { steps.old ≤ 2 ^ 62 + 2 ^ 60 }
+        requires space { steps.old ≤ 2 ^ 62 + 2 ^ 60 }
         ensures same { self.new.all ≡ self.old.all }
         ensures shows { IsTrue result ↔ ShowsTerm (map S.shown (S.leaves self.old.all)) term.now slot }
         ensures place { self.new.place ≡ slot.index }

@@ -15,7 +15,7 @@ use ats_terms::Query;
 pub fn shows_whole_list(query: &Query, proof: &ProofView<'_>, steps: &mut Steps) -> bool
     requires each { length proof.now.slots ≡ length query.now }
     requires right { AreSlotsRight query.now proof.now }
-    requires room { steps.old ≤ 2 ^ 62 + 2 ^ 42 }
+    requires space { steps.old ≤ 2 ^ 62 + 2 ^ 42 }
     ensures whole { result ≡ shows_whole query.now proof.now }
     ensures most { steps.new ≤ steps.old + length proof.now.dict + 2 * length proof.now.slots }
 {

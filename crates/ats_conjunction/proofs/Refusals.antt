@@ -20,8 +20,8 @@ module _ (H : List ℕ → List ℕ) (root : List ℕ) (query : List (List ℕ �
   one_algorithm _ b is also = absurd is
 
   breaks_algorithm : (a : BothRefusal) → IsOtherAlgorithm proof a → algorithm_of proof ≡ Tra → ⊥
-  breaks_algorithm NotTra is kept = is kept
-  breaks_algorithm _ is kept = is
+  breaks_algorithm NotTra is holds = is holds
+  breaks_algorithm _ is holds = is
 
   one_rows : (a b : BothRefusal) → HasRows proof a → HasRows proof b → a ≡ b
   one_rows (AnswerShown rows) (AnswerShown others) is also = ap AnswerShown (is.0 ∙ sym also.0)
@@ -29,8 +29,8 @@ module _ (H : List ℕ → List ℕ) (root : List ℕ) (query : List (List ℕ �
   one_rows _ b is also = absurd is
 
   breaks_rows : (a : BothRefusal) → HasRows proof a → length proof.answer ≡ 0 → ⊥
-  breaks_rows (AnswerShown rows) is kept = is.1 kept
-  breaks_rows _ is kept = is
+  breaks_rows (AnswerShown rows) is holds = is.1 holds
+  breaks_rows _ is holds = is
 
   one_in_sections : (a b : BothRefusal) → IsSectionFault H root query proof a → IsSectionFault H root query proof b → a ≡ b
   one_in_sections (Section a) (Section b) is also = ap Section (one_section H root query proof a b is also)
@@ -38,8 +38,8 @@ module _ (H : List ℕ → List ℕ) (root : List ℕ) (query : List (List ℕ �
   one_in_sections _ b is also = absurd is
 
   breaks_sections : (a : BothRefusal) → IsSectionFault H root query proof a → AllHold (section_rules H root query proof) → ⊥
-  breaks_sections (Section a) is kept = section_rules_do_not_hold H root query proof a is kept
-  breaks_sections _ is kept = is
+  breaks_sections (Section a) is holds = section_rules_do_not_hold H root query proof a is holds
+  breaks_sections _ is holds = is
 
   one_part : (a b : BothRefusal) → IsPart query proof a → IsPart query proof b → a ≡ b
   one_part NoWholeList NoWholeList is also = refl
@@ -49,9 +49,9 @@ module _ (H : List ℕ → List ℕ) (root : List ℕ) (query : List (List ℕ �
   breaks_part : (a : BothRefusal) → IsPart query proof a → IsWhole query proof → ⊥
   breaks_part NoWholeList is (inl not) = let present = is.0 in absurd (cc)
   breaks_part NoWholeList is (inr whole) = let part = is.1 in absurd (cc)
-  breaks_part _ is kept = is
+  breaks_part _ is holds = is
 
-  -- each rule fails in one way, and is then not kept
+  -- each rule fails in one way, and is then not holds
   exact : AreExact (rules H root query proof)
   exact = (
     record { breaks = breaks_algorithm; one = one_algorithm },
@@ -68,7 +68,7 @@ module _ (H : List ℕ → List ℕ) (root : List ℕ) (query : List (List ℕ �
   one_refusal a b is also = one_first (rules H root query proof) a b exact is.first also.first
 
   pub not_both : (refusal : BothRefusal) → AcceptsBoth H root query proof → IsFirstBothRefusal H root query proof refusal → ⊥
-  not_both refusal accepts is = not_all_hold (rules H root query proof) refusal exact is.first accepts.kept
+  not_both refusal accepts is = not_all_hold (rules H root query proof) refusal exact is.first accepts.holds
 
   pub accepted : {T : Type 0} (result : Result T BothRefusal) → IfErr result (IsFirstBothRefusal H root query proof) → AcceptsBoth H root query proof → is_ok result ≡ true
   accepted (Ok unit) refused accepts = refl

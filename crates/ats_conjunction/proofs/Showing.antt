@@ -92,7 +92,7 @@ module _ (H : List ℕ → List ℕ) (archive : Archive) (root : List ℕ) (quer
   none_both : are_present proof.slots ≡ false → both texts query ≡ []
   none_both not =
       let gap : HasAbsent proof.slots = absent_at proof.slots not in
-      let low : gap.place < length query = omega (arith, slice_get_within proof.slots gap.place gap.slot gap.there, is.kept.0.slots) in
+      let low : gap.place < length query = omega (arith, slice_get_within proof.slots gap.place gap.slot gap.there, is.holds.0.slots) in
       let pair : List ℕ × ℕ = get_or query gap.place ([], 0) in
       let at : slice_get query gap.place ≡ Some pair = slice_get-get_or query gap.place ([], 0) low in
       none_kept (has_all texts query) (range_with_len 0 (length texts)) (λ k d inside.
@@ -106,7 +106,7 @@ module _ (H : List ℕ → List ℕ) (archive : Archive) (root : List ℕ) (quer
     tells i d inside =
         let one : MetDocument = get_or met i d in
         let there : slice_get met i ≡ Some one = slice_get-get_or met i d inside in
-        let terms : length proof.slots ≡ length query = is.kept.0.slots in
+        let terms : length proof.slots ≡ length query = is.holds.0.slots in
         let size : length one.section.slots ≡ length query =
         omega (arith, slots_of_met proof proof.docs is.parts i one there, all_counted proof.slots present, terms) in
         same_terms texts one.doc one.section.slots query size (λ k low.

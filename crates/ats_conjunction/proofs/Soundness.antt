@@ -14,9 +14,9 @@ pub both_or_collide : (H : List ℕ → List ℕ) → ((m : List ℕ) → length
     → IsQuery query → IsProof bytes proof → AcceptsBoth H root query proof → AreBothOrCollide H root query proof
 both_or_collide H sized root query bytes proof asked says accepts archive are same =
     let range : IsInRange proof = in_range bytes proof says in
-    elim (own_or_collides H sized root query proof asked range says.prefix_each accepts.kept.1.1.0 archive are same) [
+    elim (own_or_collides H sized root query proof asked range says.prefix_each accepts.holds.1.1.0 archive are same) [
       | inl own ↦ inl (shown_are_both H archive root query proof
-          (record { are = are; asked = asked; range = range; enough = sym says.prefix_each; parts = says.documents; kept = accepts.kept.1.1.0; own = own })
-          accepts.kept.0 accepts.kept.1.1.1.0)
+          (record { are = are; asked = asked; range = range; enough = sym says.prefix_each; parts = says.documents; holds = accepts.holds.1.1.0; own = own })
+          accepts.holds.0 accepts.holds.1.1.1.0)
       | inr some ↦ inr some
     ]

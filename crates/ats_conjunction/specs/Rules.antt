@@ -34,15 +34,15 @@ IsPart query proof _ = ⊥
 -- the rules of a proof, in their order
 abbrev pub rules : (List ℕ → List ℕ) → List ℕ → List (List ℕ × ℕ) → Proof → List (Group BothRefusal)
 rules H root query proof =
-    record { kept = algorithm_of proof ≡ Tra; fault = IsOtherAlgorithm proof }
-    ∷ record { kept = length proof.answer ≡ 0; fault = HasRows proof }
-    ∷ record { kept = AllHold (section_rules H root query proof); fault = IsSectionFault H root query proof }
-    ∷ record { kept = IsWhole query proof; fault = IsPart query proof }
+    record { holds = algorithm_of proof ≡ Tra; fault = IsOtherAlgorithm proof }
+    ∷ record { holds = length proof.answer ≡ 0; fault = HasRows proof }
+    ∷ record { holds = AllHold (section_rules H root query proof); fault = IsSectionFault H root query proof }
+    ∷ record { holds = IsWhole query proof; fault = IsPart query proof }
     ∷ []
 
 -- all rules hold
 pub record AcceptsBoth (H : List ℕ → List ℕ) (root : List ℕ) (query : List (List ℕ × ℕ)) (proof : Proof) : Type 0 where
-  pub kept : AllHold (rules H root query proof)
+  pub holds : AllHold (rules H root query proof)
 
 -- the first rule that the proof breaks
 pub record IsFirstBothRefusal (H : List ℕ → List ℕ) (root : List ℕ) (query : List (List ℕ × ℕ)) (proof : Proof) (refusal : BothRefusal) : Type 0 where

@@ -27,7 +27,7 @@ fn sections<'a, H: Hash32>(
     requires none { length proof.now.answer ≡ 0 }
     requires work { length proof.now.met ≤ work.old.room }
     requires count { steps.old ≤ 2 ^ 62 }
-    ensures kept { OnOk result (AllHold (section_rules H.hash root.now query.now proof.now)) }
+    ensures holds { OnOk result (AllHold (section_rules H.hash root.now query.now proof.now)) }
     ensures fault { IfErr result (IsSectionFault H.hash root.now query.now proof.now) }
     ensures room { work.new.room ≡ work.old.room }
     ensures steps { steps.new ≤ steps.old + 8 * items_of proof.now + 64 }

@@ -24,7 +24,7 @@ fn with_all(
     requires parts { AreDocuments (length (ids_of docs)) terms (documents_of docs) }
     requires few { length (ids_of docs) ≤ 65536 }
     requires terms { terms ≤ 32 }
-    requires room { steps.old ≤ 2 ^ 32 }
+    requires space { steps.old ≤ 2 ^ 32 }
     ensures { IfOk result (λ documents. documents ≡ with_all (documents_left docs.entry)) }
 {
     let mut left = docs;

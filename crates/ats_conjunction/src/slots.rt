@@ -10,7 +10,7 @@ use ats_proof::{DocView, ProofView};
 
 /// Whether each term of the query is present.
 pub(crate) fn are_present(proof: &ProofView<'_>, steps: &mut Steps) -> bool
-    requires room { steps.old ≤ 2 ^ 63 }
+    requires space { steps.old ≤ 2 ^ 63 }
     ensures all { result ≡ are_present proof.now.slots }
     ensures cost { steps.new ≤ steps.old + length proof.now.slots }
 {
@@ -25,7 +25,7 @@ pub(crate) fn are_present(proof: &ProofView<'_>, steps: &mut Steps) -> bool
 /// Whether a met document has each of so many present terms, by its slots.
 pub(crate) fn shows_all(doc: &DocView<'_>, terms: u32, steps: &mut Steps) -> bool
     requires each { terms ≡ length (section_of doc.now).slots }
-    requires room { steps.old ≤ 2 ^ 63 }
+    requires space { steps.old ≤ 2 ^ 63 }
     ensures all { result ≡ shows_all (document_of doc.now) }
     ensures cost { steps.new ≤ steps.old + terms }
 {

@@ -1,19 +1,14 @@
 -- A growth that is accepted is not refused, and a growth is refused by one rule.
-use Rattle.std.proofs.Common.{◌≡◌, ◌≢◌, ℕ, ◌≤◌, List, length, refl, sym, ◌∙◌, ap, ap₂, arith}
+use Rattle.std.proofs.Common.{◌≡◌, ◌≢◌, ℕ, ◌≤◌, List, length, refl, ap, ap₂, arith}
 use Rattle.std.specs.Prelude.{Ok, Err, IsOk, IfErr}
 use Rattle.std.specs.declared.result.Result.{Result}
-use Rattle.ats_base.specs.Rules.{Group}
 use Rattle.ats_commit.specs.Root.{header_root}
-use Rattle.ats_base.proofs.Public.{IsExact, AreExact, not_all_hold, one_first}
+use Rattle.ats_base.proofs.Public.{AreExact, fails_by, not_all_hold, one_first}
 use Rattle.ats_consistency.specs.Rules.{rules, AcceptsGrowth, IsFirstGrowthRefusal, IsOtherOld, IsOtherNew, IsShrunk, IsMisfit, IsOldTexts, IsNewTexts, digests_needed, texts_roots}
 use Rattle.ats_consistency.specs.Value.{Growth}
 use Rattle.ats_consistency.specs.declared.checking.Grown.{Grown}
 use Rattle.ats_refusal.specs.declared.growth.GrowthRefusal.{GrowthRefusal}
 use Rattle.ats_refusal.specs.declared.growth.GrowthRefusal.TheVariants.{OtherOld, OtherNew, Shrunk, GrowthMisfit, OldTexts, NewTexts}
-
--- a group of rules that fails only by x
-fails_by : (x : GrowthRefusal) (group : Group GrowthRefusal) → ((a : GrowthRefusal) → group.fault a → (a ≡ x) × (group.kept → ⊥)) → IsExact group
-fails_by x group is = record { breaks = λ a fault kept. (is a fault).1 kept; one = λ a b fault also. (is a fault).0 ∙ sym (is b also).0 }
 
 module _ (H : List ℕ → List ℕ) (old new : List ℕ) (g : Growth) where
   old-is : (a : GrowthRefusal) → IsOtherOld H old g a → (a ≡ OtherOld) × (header_root H g.old_format g.old ≢ old)
@@ -25,7 +20,7 @@ module _ (H : List ℕ → List ℕ) (old new : List ℕ) (g : Growth) where
   new-is _ is = absurd is
 
   shrunk-is : (a : GrowthRefusal) → IsShrunk g a → (a ≡ Shrunk g.old.documents g.new.documents) × (g.old.documents ≤ g.new.documents → ⊥)
-  shrunk-is (Shrunk m n) is = (ap₂ Shrunk is.0 is.1, λ kept. omega (arith, is.2, kept))
+  shrunk-is (Shrunk m n) is = (ap₂ Shrunk is.0 is.1, λ holds. omega (arith, is.2, holds))
   shrunk-is _ is = absurd is
 
   misfit-is : (a : GrowthRefusal) → IsMisfit g a → (a ≡ GrowthMisfit (length g.digests)) × (length g.digests ≢ digests_needed g.old.documents g.new.documents)
@@ -51,7 +46,7 @@ module _ (H : List ℕ → List ℕ) (old new : List ℕ) (g : Growth) where
 
   -- a growth that is accepted is not refused
   pub accepted_not_refused : (refusal : GrowthRefusal) → AcceptsGrowth H old new g → IsFirstGrowthRefusal H old new g refusal → ⊥
-  accepted_not_refused refusal accepts is = not_all_hold (rules H old new g) refusal exact is.first accepts.kept
+  accepted_not_refused refusal accepts is = not_all_hold (rules H old new g) refusal exact is.first accepts.holds
 
   -- a growth is refused by one rule
   pub one_refusal : (a b : GrowthRefusal) → IsFirstGrowthRefusal H old new g a → IsFirstGrowthRefusal H old new g b → a ≡ b

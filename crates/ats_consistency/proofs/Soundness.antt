@@ -79,7 +79,7 @@ module _ (H : List ℕ → List ℕ) (sized : (m : List ℕ) → length (H m) �
   texts-bind : AcceptsGrowth H (root_of H older) (root_of H newer) g → IsHeaderOf H older g.old → IsHeaderOf H newer g.new
       → Binds H second_of (third ++ (fourth ++ fifth)) (OwnNew × (OwnOld × Extends old_tree new_tree))
   texts-bind accepts old_own new_own =
-      let rest = accepts.kept.1.1
+      let rest = accepts.holds.1.1
       in let fit : Fits path old_tree new_tree =
       fits (leads g.old.documents g.new.documents range.old.numbers.some rest.0) older.texts newer.texts (sym old_own.number) (sym new_own.number)
       in let all : AreSized digests = All-reverse (λ (d : List ℕ). length d ≡ 32) g.digests range.sized
@@ -102,11 +102,11 @@ module _ (H : List ℕ → List ℕ) (sized : (m : List ℕ) → length (H m) �
       in let Old : Type 0 = IsHeaderOf H older g.old
       in let New : Type 0 = IsHeaderOf H newer g.new
       in binds-weaker H second_of (pairs H older newer g) (Old × (New × Texts)) (HasGrown older newer g.old.documents g.new.documents)
-      (λ all. record { old = sym all.0.number; new = sym all.1.0.number; kept = prefix-of older.texts newer.texts all.1.1.1.1 })
+      (λ all. record { old = sym all.0.number; new = sym all.1.0.number; prefix = prefix-of older.texts newer.texts all.1.1.1.1 })
       (binds-both H second_of (first ∷ []) (second ∷ texts) Old (New × Texts)
-      (header-binds H sized 1 older g.old_format g.old old_are range.old accepts.kept.0)
+      (header-binds H sized 1 older g.old_format g.old old_are range.old accepts.holds.0)
       (λ old_own. binds-both H second_of (second ∷ []) texts New Texts
-      (header-binds H sized 2 newer g.new_format g.new new_are range.new accepts.kept.1.0)
+      (header-binds H sized 2 newer g.new_format g.new new_are range.new accepts.holds.1.0)
       (λ new_own. texts-bind accepts old_own new_own)))
 
 -- ---- the theorem

@@ -14,7 +14,7 @@ IsPrefix old new = take (length old) new ≡ old
 pub record HasGrown (older newer : Archive) (m n : ℕ) : Type 0 where
   pub old : length older.texts ≡ m
   pub new : length newer.texts ≡ n
-  pub kept : IsPrefix older.texts newer.texts
+  pub prefix : IsPrefix older.texts newer.texts
 
 -- For all archives with the two roots, either nothing was withdrawn, or the strings that the growth and the two archives
 -- hash contain two different ones with equal digests.

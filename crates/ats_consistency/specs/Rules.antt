@@ -45,17 +45,17 @@ IsNewTexts H g _ = ⊥
 -- the rules of a growth, in their order
 abbrev pub rules : (List ℕ → List ℕ) → List ℕ → List ℕ → Growth → List (Group GrowthRefusal)
 rules H old new g =
-    record { kept = header_root H g.old_format g.old ≡ old; fault = IsOtherOld H old g }
-    ∷ record { kept = header_root H g.new_format g.new ≡ new; fault = IsOtherNew H new g }
-    ∷ record { kept = g.old.documents ≤ g.new.documents; fault = IsShrunk g }
-    ∷ record { kept = length g.digests ≡ digests_needed g.old.documents g.new.documents; fault = IsMisfit g }
-    ∷ record { kept = (texts_roots H g).old ≡ g.old.texts_root; fault = IsOldTexts H g }
-    ∷ record { kept = (texts_roots H g).new ≡ g.new.texts_root; fault = IsNewTexts H g }
+    record { holds = header_root H g.old_format g.old ≡ old; fault = IsOtherOld H old g }
+    ∷ record { holds = header_root H g.new_format g.new ≡ new; fault = IsOtherNew H new g }
+    ∷ record { holds = g.old.documents ≤ g.new.documents; fault = IsShrunk g }
+    ∷ record { holds = length g.digests ≡ digests_needed g.old.documents g.new.documents; fault = IsMisfit g }
+    ∷ record { holds = (texts_roots H g).old ≡ g.old.texts_root; fault = IsOldTexts H g }
+    ∷ record { holds = (texts_roots H g).new ≡ g.new.texts_root; fault = IsNewTexts H g }
     ∷ []
 
 -- all rules hold
 pub record AcceptsGrowth (H : List ℕ → List ℕ) (old new : List ℕ) (g : Growth) : Type 0 where
-  pub kept : AllHold (rules H old new g)
+  pub holds : AllHold (rules H old new g)
 
 -- the first rule that the growth breaks
 pub record IsFirstGrowthRefusal (H : List ℕ → List ℕ) (old new : List ℕ) (g : Growth) (refusal : GrowthRefusal) : Type 0 where

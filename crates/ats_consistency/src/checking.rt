@@ -23,7 +23,7 @@ pub struct Grown {
 fn texts_roots<'a, H: Hash32>(proof: &GrowthView<'a>, steps: &mut Steps) -> RootPair
     requires within { proof.now.old.documents ≤ proof.now.new.documents }
     requires fits { length proof.now.digests ≡ digests_needed proof.now.old.documents proof.now.new.documents }
-    requires room { steps.old ≤ 2 ^ 63 }
+    requires space { steps.old ≤ 2 ^ 63 }
     ensures old { result.old ≡ (texts_roots H.hash proof.now).old }
     ensures new { result.new ≡ (texts_roots H.hash proof.now).new }
     ensures cost { steps.new ≤ steps.old + 49 }

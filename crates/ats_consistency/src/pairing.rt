@@ -48,7 +48,7 @@ pub(crate) fn roots_of<H: Hash32>(
     requires some { 1 ≤ m }
     requires within { m ≤ n }
     requires enough { need (turns m n) known ≤ length (digests_of digests.old) }
-    requires room { steps.old + 3 * length (turns m n) + 1 < 2 ^ 64 }
+    requires space { steps.old + 3 * length (turns m n) + 1 < 2 ^ 64 }
     ensures paired { ArePaired H.hash root.now (turns m n) known (digests_of digests.old) result.old result.new
         (digests_of digests.new) }
     ensures cost { steps.new ≤ steps.old + 3 * length (turns m n) + 1 }
@@ -87,7 +87,7 @@ pub(crate) fn roots_of<H: Hash32>(
 /// Takes the first digest.
 pub fn next_digest(digests: &mut DigestRun<'_>, steps: &mut Steps) -> [u8; 32]
     requires some { 1 ≤ length (digests_of digests.old) }
-    requires room { steps.old + 1 < 2 ^ 64 }
+    requires space { steps.old + 1 < 2 ^ 64 }
     ensures first { slice_get (digests_of digests.old) 0 ≡ Some result }
     ensures passed { digests_of digests.new ≡ drop 1 (digests_of digests.old) }
     ensures cost { steps.new ≡ steps.old + 1 }

@@ -151,18 +151,18 @@ module _ {before now : ShelfTold} where
       → now.files ≡ before.files
   same_index {H} {name} {archive} done = (index_got before now H name archive done.so).1
 
-  -- what such a step found is still there if the files are the same
-  pub bytes_at : {files : Files} {name : List ℕ} {limit : ℕ} {fault : Stop} {bytes : List ℕ} → files ≡ before.files
-      → IsDone (Reads name limit (Fails fault) (comes_to bytes)) before now [] → IsFile files name limit bytes
-  bytes_at {name = name} {limit = limit} {bytes = bytes} same done = subst (λ (f : Files). IsFile f name limit bytes) (sym same) (has_bytes done)
+  -- what such a step found is still there, an index also after later steps that leave the files
+  pub still_bytes : {name : List ℕ} {limit : ℕ} {fault : Stop} {bytes : List ℕ}
+      → IsDone (Reads name limit (Fails fault) (comes_to bytes)) before now [] → IsFile now.files name limit bytes
+  still_bytes {name = name} {limit = limit} {bytes = bytes} done = subst (λ (f : Files). IsFile f name limit bytes) (sym (same_bytes done)) (has_bytes done)
 
-  pub collection_at : {files : Files} {name : List ℕ} {texts : List (List ℕ)} → files ≡ before.files
-      → IsDone (reads_collection name (comes_to texts)) before now [] → HasCollection files name texts
-  collection_at {name = name} {texts = texts} same done = subst (λ (f : Files). HasCollection f name texts) (sym same) (has_collection done)
+  pub still_collection : {name : List ℕ} {texts : List (List ℕ)} → IsDone (reads_collection name (comes_to texts)) before now []
+      → HasCollection now.files name texts
+  still_collection {name = name} {texts = texts} done = subst (λ (f : Files). HasCollection f name texts) (sym (same_collection done)) (has_collection done)
 
-  pub index_at : {files : Files} {H : List ℕ → List ℕ} {name : List ℕ} {archive : Archive} → files ≡ before.files
-      → IsDone (reads_index H name (comes_to archive)) before now [] → HasIndex H files name archive
-  index_at {H = H} {name = name} {archive = archive} same done = subst (λ (f : Files). HasIndex H f name archive) (sym same) (has_index done)
+  pub still_index : {H : List ℕ → List ℕ} {files : Files} {name : List ℕ} {archive : Archive}
+      → IsDone (reads_index H name (comes_to archive)) before now [] → files ≡ now.files → HasIndex H files name archive
+  still_index {H = H} {name = name} {archive = archive} done same = subst (λ (f : Files). HasIndex H f name archive) (sym (same ∙ same_index done)) (has_index done)
 
 -- ---- such a step stopped
 
@@ -235,8 +235,8 @@ module _ {plan : Plan Stop} {before mid : ShelfTold} {stop : Stop} where
   get_stops {rest = rest} leads (inr fault) = leads.stops mid stop (at_get {rest = rest} fault)
 
   -- the step does not hold, or memory ran out
-  pub try_stops : {kept : Type 0} {fault : Stop → Type 0} {rest : Plan Stop}
-      → Leads Shelf Memory plan before (Tries kept fault rest) mid → (stop ≡ Memory) ⊎ fault stop → IsStopped Shelf Memory plan before mid stop
+  pub try_stops : {holds : Type 0} {fault : Stop → Type 0} {rest : Plan Stop}
+      → Leads Shelf Memory plan before (Tries holds fault rest) mid → (stop ≡ Memory) ⊎ fault stop → IsStopped Shelf Memory plan before mid stop
   try_stops leads (inl memory) = memory_stops leads memory
   try_stops leads (inr fault) = leads.stops mid stop (at_try fault)
 
@@ -254,8 +254,8 @@ module _ {plan : Plan Stop} {before mid : ShelfTold} where
       → IsStopped Shelf Memory plan before mid (stop_of fault)
   get_faults {first = first} {stop_of = stop_of} leads fault is = get_stops leads (stops_by first stop_of fault (stop_of fault) is refl)
 
-  pub try_faults : {E : Type 0} {kept : Type 0} {first : E → Type 0} {stop_of : E → Stop} {rest : Plan Stop}
-      → Leads Shelf Memory plan before (Tries kept (StopsBy first stop_of) rest) mid → (fault : E) → first fault
+  pub try_faults : {E : Type 0} {holds : Type 0} {first : E → Type 0} {stop_of : E → Stop} {rest : Plan Stop}
+      → Leads Shelf Memory plan before (Tries holds (StopsBy first stop_of) rest) mid → (fault : E) → first fault
       → IsStopped Shelf Memory plan before mid (stop_of fault)
   try_faults {first = first} {stop_of = stop_of} leads fault is = try_stops leads (stops_by first stop_of fault (stop_of fault) is refl)
 

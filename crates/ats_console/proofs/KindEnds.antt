@@ -1,31 +1,17 @@
 -- How a command stops at the check of a file, and how it is done after it.
-use Rattle.std.proofs.Common.{◌≡◌, ◌∙◌, ℕ, List, [], Result, Ok, Err, sym, subst}
+use Rattle.std.proofs.Common.{ℕ, List, Result, Ok, Err}
 use Rattle.std.specs.Prelude.{IfOk}
 use Rattle.ats_base.specs.Outside.{ShelfTold}
 use Rattle.ats_commit.specs.Archive.{Archive}
 use Rattle.ats_commit.specs.Own.{AreTexts}
-use Rattle.ats_plan.specs.Files.{Files, IsFile}
-use Rattle.ats_plan.specs.Plan.{Plan, Finishes, Fails, Gets, Reads}
+use Rattle.ats_plan.specs.Files.{Files}
+use Rattle.ats_plan.specs.Plan.{Plan, Finishes, Gets}
 use Rattle.ats_plan.specs.Runs.{IsDone}
 use Rattle.ats_plan.proofs.Public.{Leads, done_get, done_end}
 use Rattle.ats_console.specs.Kinds.{Kind}
 use Rattle.ats_console.specs.Read.{HasIndex}
-use Rattle.ats_console.specs.Steps.{reads_index, comes_to}
 use Rattle.ats_console.specs.declared.stops.Stop.{Stop}
 use Rattle.ats_console.specs.declared.stops.Stop.TheVariants.{Shelf, Memory}
-use Rattle.ats_console.proofs.Fronts.{has_bytes, same_bytes, has_index, same_index}
-
--- a file that was read is still there
-pub still_bytes : {before now : ShelfTold} {name : List ℕ} {limit : ℕ} {fault : Stop} {bytes : List ℕ}
-    → IsDone (Reads name limit (Fails fault) (comes_to bytes)) before now [] → IsFile now.files name limit bytes
-still_bytes {name = name} {limit = limit} {bytes = bytes} done =
-    subst (λ (files : Files). IsFile files name limit bytes) (sym (same_bytes done)) (has_bytes done)
-
--- so is an index after later steps that leave the files
-pub still_index : {H : List ℕ → List ℕ} {before mid : ShelfTold} {files : Files} {name : List ℕ} {archive : Archive}
-    → IsDone (reads_index H name (comes_to archive)) before mid [] → files ≡ mid.files → HasIndex H files name archive
-still_index {H = H} {name = name} {archive = archive} done same =
-    subst (λ (all : Files). HasIndex H all name archive) (sym (same ∙ same_index done)) (has_index done)
 
 -- the texts of an index are UTF-8 and within the limits
 pub texts_of : {H : List ℕ → List ℕ} {files : Files} {name : List ℕ} {archive : Archive} → HasIndex H files name archive → AreTexts archive.texts

@@ -13,7 +13,7 @@ use Rattle.ats_console.specs.declared.stops.Stop.TheVariants.{Usage, Rejected}
 pub record IsFileOne {V F : Type 0} (accepted : V → Type 0) (bad : ShapeFault → Type 0) (refused : F → Type 0) : Type 0 where
   pub single : (a b : V) → accepted a → accepted b → a ≡ b
   pub whole : (v : V) (fault : ShapeFault) → accepted v → bad fault → ⊥
-  pub kept : (v : V) (fault : F) → accepted v → refused fault → ⊥
+  pub never_both : (v : V) (fault : F) → accepted v → refused fault → ⊥
   pub apart : (fault : ShapeFault) (other : F) → bad fault → refused other → ⊥
   pub one_shape : (a b : ShapeFault) → bad a → bad b → a ≡ b
   pub one_rule : (a b : F) → refused a → refused b → a ≡ b
@@ -22,7 +22,7 @@ module _ {V F : Type 0} {accepted : V → Type 0} {bad : ShapeFault → Type 0} 
     (is : IsFileOne accepted bad refused) where
   breaks : (v : V) (stop : Stop) → RejectsFile bad refused words_of stop → accepted v → ⊥
   breaks v stop (inl (fault, wrong, same)) good = is.whole v fault good wrong
-  breaks v stop (inr (fault, wrong, same)) good = is.kept v fault good wrong
+  breaks v stop (inr (fault, wrong, same)) good = is.never_both v fault good wrong
 
   one_stop : (a b : Stop) → RejectsFile bad refused words_of a → RejectsFile bad refused words_of b → a ≡ b
   one_stop a b (inl (fault, wrong, same)) (inl (other, also, like)) =

@@ -45,7 +45,7 @@ named_sound is later = reads (fails not_rejected) (λ bytes. gets (is.one bytes)
 module _ {V F : Type 0} (says accepts : V → Type 0) (first : V → F → Type 0) {accepted : V → Type 0} {bad : ShapeFault → Type 0} {refused : F → Type 0}
     (parts : (v : V) → accepted v → says v × accepts v) (by : (f : F) → refused f → (v : V) × says v × first v f)
     (single : (a b : V) → says a → says b → a ≡ b) (no_shape : (v : V) (fault : ShapeFault) → says v → bad fault → ⊥)
-    (one_shape : (a b : ShapeFault) → bad a → bad b → a ≡ b) (kept : (v : V) (f : F) → accepts v → first v f → ⊥)
+    (one_shape : (a b : ShapeFault) → bad a → bad b → a ≡ b) (never_both : (v : V) (f : F) → accepts v → first v f → ⊥)
     (one_rule : (v : V) (a b : F) → first v a → first v b → a ≡ b) where
   -- what breaks a rule first is what was spelled
   same_rule : (v : V) (f : F) → says v → refused f → first v f
@@ -55,7 +55,7 @@ module _ {V F : Type 0} (says accepts : V → Type 0) (first : V → F → Type 
   file_of_rules = record {
     single = λ a b is also. single a b (parts a is).0 (parts b also).0;
     whole = λ v fault is wrong. no_shape v fault (parts v is).0 wrong;
-    kept = λ v f is breaks. kept v f (parts v is).1 (same_rule v f (parts v is).0 breaks);
+    never_both = λ v f is breaks. never_both v f (parts v is).1 (same_rule v f (parts v is).0 breaks);
     apart = λ fault f wrong breaks. no_shape (by f breaks).0 fault (by f breaks).1 wrong;
     one_shape = one_shape;
     one_rule = λ a b is also. one_rule (by a is).0 a b (by a is).2 (same_rule (by a is).0 b (by a is).1 also);
@@ -85,7 +85,7 @@ module _ (H : List ℕ → List ℕ) where
   both_file_one root query bytes = record {
     single = λ a b is also. one_value bytes a b is.says also.says;
     whole = λ proof fault is bad. no_fault proof_schema bytes fault (fields_of proof) bad is.says.spells;
-    kept = λ proof refusal is refused. not_refused H root query bytes proof refusal is refused;
+    never_both = λ proof refusal is refused. not_refused H root query bytes proof refusal is refused;
     apart = λ fault refusal bad refused. no_fault proof_schema bytes fault (fields_of refused.proof) bad refused.says.spells;
     one_shape = one_fault proof_schema bytes;
     one_rule = one_of_bytes H root query bytes;

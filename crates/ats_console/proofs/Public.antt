@@ -11,17 +11,17 @@ pub use Rattle.ats_console.proofs.Fronts.{leads_ranking}
 -- a file, a collection or an index that was read leads past its step
 pub use Rattle.ats_console.proofs.Fronts.{leads_bytes, leads_collection, leads_index}
 -- what such a step found
-pub use Rattle.ats_console.proofs.Fronts.{has_bytes, has_collection, has_index}
--- it is still there if the files are the same
-pub use Rattle.ats_console.proofs.Fronts.{bytes_at, collection_at, index_at}
+pub use Rattle.ats_console.proofs.Fronts.{has_index}
+-- it is still there, an index also after later steps that leave the files
+pub use Rattle.ats_console.proofs.Fronts.{still_bytes, still_collection, still_index}
 -- such a step left the files
-pub use Rattle.ats_console.proofs.Fronts.{same_bytes, same_collection, same_index}
+pub use Rattle.ats_console.proofs.Fronts.{same_bytes, same_index}
 -- memory may run out after some steps, whatever comes after them
 pub use Rattle.ats_console.proofs.Fronts.{ran_out, memory_stops}
 -- if such a step stopped, what it is the first step of stopped there
 pub use Rattle.ats_console.proofs.Fronts.{at_bytes, at_collection, at_index}
--- a stop that is passed on keeps its cause, also at the exit of a `?`
-pub use Rattle.ats_console.proofs.Fronts.{passed_on, passed}
+-- a stop that is passed on keeps its cause at the exit of a `?`
+pub use Rattle.ats_console.proofs.Fronts.{passed}
 -- a step that finds no value, or does not hold, stops what comes to it
 pub use Rattle.ats_console.proofs.Fronts.{get_stops, try_stops}
 -- so does a text that is no query
@@ -30,15 +30,6 @@ pub use Rattle.ats_console.proofs.Fronts.{text_stops}
 pub use Rattle.ats_console.proofs.Fronts.{rows_stops, query_stops}
 -- a query has no fault, and a text has at most one
 pub use Rattle.ats_console.proofs.OneFault.{no_query_fault, one_query_fault}
--- texts of JSON bytes have no fault, and bytes have at most one
-pub use Rattle.ats_console.proofs.JsonLemmas.{no_json_fault}
-pub use Rattle.ats_console.proofs.OneFault.{one_json_fault}
--- bytes have at most one list of texts
-pub use Rattle.ats_console.proofs.JsonLemmas.{same_texts}
--- texts within the limits have no fault, and others at most one
-pub use Rattle.ats_console.proofs.OneFault.{no_collection_fault, one_collection_fault}
--- the bytes of an index have no fault, and others at most one
-pub use Rattle.ats_console.proofs.OneFault.{no_load_fault, one_load_fault}
 -- a number of rows in range and a query that was read are within the limits
 pub use Rattle.ats_console.proofs.Fronts.{rows_of_range, asks_of}
 -- bytes that are refused stop what comes to their check
@@ -59,8 +50,6 @@ pub use Rattle.ats_console.proofs.OneProof.{honest_short, one_length}
 pub use Rattle.ats_console.proofs.OneProof.{one_made, made_short, length_exact}
 -- a file of each kind is accepted or rejected in one way, and its check keeps that a plan goes one way
 pub use Rattle.ats_console.proofs.OneKind.{IsKindOne, text_one, both_one, growth_one, named_sound}
--- a file or an index that was read is still there
-pub use Rattle.ats_console.proofs.KindEnds.{still_bytes, still_index}
 -- bytes that were accepted end a command
 pub use Rattle.ats_console.proofs.KindEnds.{check_end}
 -- the texts of an index are UTF-8 and within the limits

@@ -52,8 +52,8 @@ stores = record { so = tt; free = tt }
 pub fails : {fault : Stop} → Usage ≢ fault → Sound (Fails fault)
 fails other = record { so = tt; free = other }
 
-pub tries : {kept : Type 0} {fault : Stop → Type 0} {rest : Plan Stop} → IsExact kept fault → (fault Usage → ⊥) → Sound rest
-    → Sound (Tries kept fault rest)
+pub tries : {holds : Type 0} {fault : Stop → Type 0} {rest : Plan Stop} → IsExact holds fault → (fault Usage → ⊥) → Sound rest
+    → Sound (Tries holds fault rest)
 tries exact other later = record { so = (exact, later.so); free = (other, later.free) }
 
 pub gets : {A : Type 0} {is : A → Type 0} {fault : Stop → Type 0} {rest : A → Plan Stop} → IsOne is fault → (fault Usage → ⊥)
@@ -113,8 +113,8 @@ not_load index.OutOfMemory = not_memory
 
 module _ {E : Type 0} (first : E → Type 0) (stop_of : E → Stop) where
   -- what excludes each first fault is not stopped by one
-  kept_by : (kept : Type 0) → ((fault : E) → kept → stop_of fault ≢ Memory → first fault → ⊥) → (stop : Stop) → StopsBy first stop_of stop → kept → ⊥
-  kept_by kept none stop (fault, is, same, free) holds = none fault holds (λ memory. free (same ∙ memory)) is
+  refutes : (rule : Type 0) → ((fault : E) → rule → stop_of fault ≢ Memory → first fault → ⊥) → (stop : Stop) → StopsBy first stop_of stop → rule → ⊥
+  refutes rule none stop (fault, is, same, free) holds = none fault holds (λ memory. free (same ∙ memory)) is
 
   -- if there is one first fault, it stops in one way
   one_by : ((a b : E) → stop_of a ≢ Memory → stop_of b ≢ Memory → first a → first b → a ≡ b) → (a b : Stop) → StopsBy first stop_of a → StopsBy first stop_of b → a ≡ b
@@ -132,27 +132,27 @@ rows_exact r = record {
 query_one : (text : List ℕ) → IsOne (IsQueryOf text) (StopsBy (IsFirstFault text) stop_of_query)
 query_one text = record {
   single = λ a b is also. is.same ∙ sym also.same;
-  breaks = λ query. kept_by (IsFirstFault text) stop_of_query (IsQueryOf text query) (λ fault is. no_query_fault text fault is.has);
+  breaks = λ query. refutes (IsFirstFault text) stop_of_query (IsQueryOf text query) (λ fault is. no_query_fault text fault is.has);
   one = one_by (IsFirstFault text) stop_of_query (one_query_fault text);
 }
 
 texts_one : (bytes : List ℕ) → IsOne (AreJsonTexts bytes) (StopsBy (IsFirstJsonFault bytes) stop_of_json)
 texts_one bytes = record {
   single = same_texts bytes;
-  breaks = λ texts. kept_by (IsFirstJsonFault bytes) stop_of_json (AreJsonTexts bytes texts) (λ fault. no_json_fault bytes texts fault);
+  breaks = λ texts. refutes (IsFirstJsonFault bytes) stop_of_json (AreJsonTexts bytes texts) (λ fault. no_json_fault bytes texts fault);
   one = one_by (IsFirstJsonFault bytes) stop_of_json (one_json_fault bytes);
 }
 
 limits_exact : (texts : List (List ℕ)) → IsExact (AreWithin texts) (StopsBy (IsFirstCollectionFault texts) stop_of_collection)
 limits_exact texts = record {
-  breaks = kept_by (IsFirstCollectionFault texts) stop_of_collection (AreWithin texts) (no_collection_fault texts);
+  breaks = refutes (IsFirstCollectionFault texts) stop_of_collection (AreWithin texts) (no_collection_fault texts);
   one = one_by (IsFirstCollectionFault texts) stop_of_collection (one_collection_fault texts);
 }
 
 archive_one : (H : List ℕ → List ℕ) (bytes : List ℕ) → IsOne (IsSpelling H bytes) (StopsBy (IsLoadFault H bytes) stop_of_load)
 archive_one H bytes = record {
   single = one_archive H bytes;
-  breaks = λ archive. kept_by (IsLoadFault H bytes) stop_of_load (IsSpelling H bytes archive) (no_load_fault H bytes archive);
+  breaks = λ archive. refutes (IsLoadFault H bytes) stop_of_load (IsSpelling H bytes archive) (no_load_fault H bytes archive);
   one = one_by (IsLoadFault H bytes) stop_of_load (one_load_fault H bytes);
 }
 

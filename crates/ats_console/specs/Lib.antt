@@ -1,6 +1,5 @@
 pub mod Input
 pub mod Words
-pub mod Meaning
 pub mod Print
 pub mod RejectionLines
 pub mod CollisionLines

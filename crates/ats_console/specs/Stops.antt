@@ -6,6 +6,7 @@ use Rattle.ats_impact.specs.declared.collection.CollectionFault.{CollectionFault
 use Rattle.ats_impact.specs.declared.collection.CollectionFault.TheVariants as collection
 use Rattle.ats_index.specs.declared.load.LoadFault.{LoadFault}
 use Rattle.ats_index.specs.declared.load.LoadFault.TheVariants as index
+use Rattle.ats_console.specs.Words.{usage_line}
 use Rattle.ats_console.specs.declared.input.JsonFault.{JsonFault}
 use Rattle.ats_console.specs.declared.input.JsonFault.TheVariants as json
 use Rattle.ats_console.specs.declared.stops.Stop.{Stop}
@@ -57,7 +58,7 @@ status_of_stop (Faults count) = 10
 status_of_stop (Collision lines) = 5
 
 abbrev pub text_of_stop : Stop → List ℕ
-text_of_stop Usage = codes "usage: rank build root prove verify ask serve audit sweep trial migrate give fetch audit-fetch prove-both both audit-both grow growth audit-growth\n"
+text_of_stop Usage = usage_line
 text_of_stop Shelf = codes "fault: shelf\n"
 text_of_stop (Input line) = line
 text_of_stop (Rejected line) = line

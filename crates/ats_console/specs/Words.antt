@@ -8,6 +8,14 @@ use Rattle.std.specs.Str.Parse.{digits_value}
 use Rattle.hex.specs.Hex.{decode_sized}
 use Rattle.ats_proof.specs.declared.record.Algorithm.{Algorithm}
 use Rattle.ats_proof.specs.declared.record.Algorithm.TheVariants.{Tra, Tnra}
+use Rattle.ats_console.specs.declared.words.MakerCommand.{MakerCommand as MakerValue}
+use Rattle.ats_console.specs.declared.words.MakerCommand.TheVariants as maker
+use Rattle.ats_console.specs.declared.words.CheckerCommand.{CheckerCommand as CheckerValue}
+use Rattle.ats_console.specs.declared.words.CheckerCommand.TheVariants as checker
+use Rattle.ats_console.specs.declared.words.AuditorCommand.{AuditorCommand as AuditorValue}
+use Rattle.ats_console.specs.declared.words.AuditorCommand.TheVariants as auditor
+use Rattle.ats_console.specs.declared.words.Command.{Command as CommandValue}
+use Rattle.ats_console.specs.declared.words.Command.TheVariants as command
 
 -- 1 to 9 decimal digits, and no leading zero except in `0`
 abbrev pub is_number_word : List ℕ → Bool
@@ -151,86 +159,140 @@ pub record AuditGrowthWords : Type 0 where
   pub new : List ℕ
   pub file : List ℕ
 
+-- a command of who has the texts
+pub data MakerCommand : Type 0 where
+  Rank : RankWords → MakerCommand
+  Build : BuildWords → MakerCommand
+  Migrate : MigrateWords → MakerCommand
+  Root : RootWords → MakerCommand
+  Prove : ProveWords → MakerCommand
+  Give : GiveWords → MakerCommand
+  ProveBoth : ProveBothWords → MakerCommand
+  Grow : GrowWords → MakerCommand
+
+-- a command of a reader, who holds only roots
+pub data CheckerCommand : Type 0 where
+  Verify : VerifyWords → CheckerCommand
+  Fetch : FetchWords → CheckerCommand
+  Both : BothWords → CheckerCommand
+  Growth : GrowthWords → CheckerCommand
+
+-- a command of who has the archive, and wants to know whether what was accepted is right
+pub data AuditorCommand : Type 0 where
+  Audit : AuditWords → AuditorCommand
+  AuditFetch : AuditFetchWords → AuditorCommand
+  AuditBoth : AuditBothWords → AuditorCommand
+  AuditGrowth : AuditGrowthWords → AuditorCommand
+  Sweep : SweepWords → AuditorCommand
+  Trial : TrialWords → AuditorCommand
+
 -- what words may ask for
 pub data Command : Type 0 where
-  Rank : RankWords → Command
-  Build : BuildWords → Command
-  Root : RootWords → Command
-  Prove : ProveWords → Command
-  Verify : VerifyWords → Command
+  Maker : MakerCommand → Command
+  Checker : CheckerCommand → Command
+  Auditor : AuditorCommand → Command
   Ask : AskWords → Command
   Serve : ServeWords → Command
-  Audit : AuditWords → Command
-  Sweep : SweepWords → Command
-  Trial : TrialWords → Command
-  Migrate : MigrateWords → Command
-  Give : GiveWords → Command
-  Fetch : FetchWords → Command
-  AuditFetch : AuditFetchWords → Command
-  ProveBoth : ProveBothWords → Command
-  Both : BothWords → Command
-  AuditBoth : AuditBothWords → Command
-  Grow : GrowWords → Command
-  Growth : GrowthWords → Command
-  AuditGrowth : AuditGrowthWords → Command
+
+-- ---- the command that a value of the program's own type means
+
+abbrev pub maker_meaning : MakerValue → MakerCommand
+maker_meaning (maker.Rank collection r query) = Rank (record { collection = collection.now; r = r; query = query.now })
+maker_meaning (maker.Build collection index) = Build (record { collection = collection.now; index = index.now })
+maker_meaning (maker.Migrate index migrated) = Migrate (record { index = index.now; migrated = migrated.now })
+maker_meaning (maker.Root index) = Root (record { index = index.now })
+maker_meaning (maker.Prove index algorithm r query proof) =
+    Prove (record { index = index.now; algorithm = algorithm; r = r; query = query.now; proof = proof.now })
+maker_meaning (maker.Give index doc file) = Give (record { index = index.now; doc = doc; file = file.now })
+maker_meaning (maker.ProveBoth index query proof) =
+    ProveBoth (record { index = index.now; query = query.now; proof = proof.now })
+maker_meaning (maker.Grow old new file) = Grow (record { old = old.now; new = new.now; file = file.now })
+
+abbrev pub checker_meaning : CheckerValue → CheckerCommand
+checker_meaning (checker.Verify root r query proof) =
+    Verify (record { root = root; r = r; query = query.now; proof = proof.now })
+checker_meaning (checker.Fetch root doc file) = Fetch (record { root = root; doc = doc; file = file.now })
+checker_meaning (checker.Both root query proof) = Both (record { root = root; query = query.now; proof = proof.now })
+checker_meaning (checker.Growth old new file) = Growth (record { old = old; new = new; file = file.now })
+
+abbrev pub auditor_meaning : AuditorValue → AuditorCommand
+auditor_meaning (auditor.Audit index r query proof) =
+    Audit (record { index = index.now; r = r; query = query.now; proof = proof.now })
+auditor_meaning (auditor.AuditFetch index doc file) =
+    AuditFetch (record { index = index.now; doc = doc; file = file.now })
+auditor_meaning (auditor.AuditBoth index query proof) =
+    AuditBoth (record { index = index.now; query = query.now; proof = proof.now })
+auditor_meaning (auditor.AuditGrowth old new file) =
+    AuditGrowth (record { old = old.now; new = new.now; file = file.now })
+auditor_meaning (auditor.Sweep index list) = Sweep (record { index = index.now; list = list.now })
+auditor_meaning (auditor.Trial number) = Trial (record { number = number })
+
+abbrev pub meaning : CommandValue → Command
+meaning (command.Maker command) = Maker (maker_meaning command)
+meaning (command.Checker command) = Checker (checker_meaning command)
+meaning (command.Auditor command) = Auditor (auditor_meaning command)
+meaning (command.Ask root algorithm r query address) =
+    Ask (record { root = root; algorithm = algorithm; r = r; query = query.now; address = address.now })
+meaning (command.Serve index connections address) =
+    Serve (record { index = index.now; connections = connections; address = address.now })
 
 -- ---- the commands, by the number of their arguments
 
 -- the command of this word and one argument, if there is one
 abbrev pub command_of_one : (word first : List ℕ) → Option Command
 command_of_one word first =
-    if bytes_eq word (codes "root") then Some (Root (record { index = first }))
-    else if bytes_eq word (codes "trial") then option_map (λ n. Trial (record { number = n })) (number_of first)
+    if bytes_eq word (codes "root") then Some (Maker (Root (record { index = first })))
+    else if bytes_eq word (codes "trial") then option_map (λ n. Auditor (Trial (record { number = n }))) (number_of first)
     else None
 
 abbrev pub command_of_two : (word first second : List ℕ) → Option Command
 command_of_two word first second =
-    if bytes_eq word (codes "build") then Some (Build (record { collection = first; index = second }))
-    else if bytes_eq word (codes "sweep") then Some (Sweep (record { index = first; list = second }))
-    else if bytes_eq word (codes "migrate") then Some (Migrate (record { index = first; migrated = second }))
+    if bytes_eq word (codes "build") then Some (Maker (Build (record { collection = first; index = second })))
+    else if bytes_eq word (codes "sweep") then Some (Auditor (Sweep (record { index = first; list = second })))
+    else if bytes_eq word (codes "migrate") then Some (Maker (Migrate (record { index = first; migrated = second })))
     else None
 
 abbrev pub command_of_three : (word first second third : List ℕ) → Option Command
 command_of_three word first second third =
     if bytes_eq word (codes "rank")
-    then option_map (λ n. Rank (record { collection = first; r = n; query = third })) (number_of second)
+    then option_map (λ n. Maker (Rank (record { collection = first; r = n; query = third }))) (number_of second)
     else if bytes_eq word (codes "serve")
     then option_map (λ n. Serve (record { index = first; connections = n; address = third })) (connections_of second)
     else if bytes_eq word (codes "give")
-    then option_map (λ n. Give (record { index = first; doc = n; file = third })) (number_of second)
+    then option_map (λ n. Maker (Give (record { index = first; doc = n; file = third }))) (number_of second)
     else if bytes_eq word (codes "fetch")
-    then option_and_then (λ digest. option_map (λ n. Fetch (record { root = digest; doc = n; file = third }))
+    then option_and_then (λ digest. option_map (λ n. Checker (Fetch (record { root = digest; doc = n; file = third })))
     (number_of second)) (root_word first)
     else if bytes_eq word (codes "audit-fetch")
-    then option_map (λ n. AuditFetch (record { index = first; doc = n; file = third })) (number_of second)
+    then option_map (λ n. Auditor (AuditFetch (record { index = first; doc = n; file = third }))) (number_of second)
     else if bytes_eq word (codes "prove-both")
-    then Some (ProveBoth (record { index = first; query = second; proof = third }))
+    then Some (Maker (ProveBoth (record { index = first; query = second; proof = third })))
     else if bytes_eq word (codes "both")
-    then option_map (λ digest. Both (record { root = digest; query = second; proof = third })) (root_word first)
+    then option_map (λ digest. Checker (Both (record { root = digest; query = second; proof = third }))) (root_word first)
     else if bytes_eq word (codes "audit-both")
-    then Some (AuditBoth (record { index = first; query = second; proof = third }))
-    else if bytes_eq word (codes "grow") then Some (Grow (record { old = first; new = second; file = third }))
+    then Some (Auditor (AuditBoth (record { index = first; query = second; proof = third })))
+    else if bytes_eq word (codes "grow") then Some (Maker (Grow (record { old = first; new = second; file = third })))
     else if bytes_eq word (codes "growth")
-    then option_and_then (λ before. option_map (λ now. Growth (record { old = before; new = now; file = third }))
+    then option_and_then (λ before. option_map (λ now. Checker (Growth (record { old = before; new = now; file = third })))
     (root_word second)) (root_word first)
     else if bytes_eq word (codes "audit-growth")
-    then Some (AuditGrowth (record { old = first; new = second; file = third }))
+    then Some (Auditor (AuditGrowth (record { old = first; new = second; file = third })))
     else None
 
 abbrev pub command_of_four : (word first second third fourth : List ℕ) → Option Command
 command_of_four word first second third fourth =
     if bytes_eq word (codes "verify")
-    then option_and_then (λ digest. option_map (λ n. Verify (record { root = digest; r = n; query = third; proof = fourth }))
+    then option_and_then (λ digest. option_map (λ n. Checker (Verify (record { root = digest; r = n; query = third; proof = fourth })))
     (number_of second)) (root_word first)
     else if bytes_eq word (codes "audit")
-    then option_map (λ n. Audit (record { index = first; r = n; query = third; proof = fourth })) (number_of second)
+    then option_map (λ n. Auditor (Audit (record { index = first; r = n; query = third; proof = fourth }))) (number_of second)
     else None
 
 abbrev pub command_of_five : (word first second third fourth fifth : List ℕ) → Option Command
 command_of_five word first second third fourth fifth =
     if bytes_eq word (codes "prove")
     then option_and_then (λ a. option_map
-    (λ n. Prove (record { index = first; algorithm = a; r = n; query = fourth; proof = fifth }))
+    (λ n. Maker (Prove (record { index = first; algorithm = a; r = n; query = fourth; proof = fifth })))
     (number_of third)) (algorithm_of second)
     else if bytes_eq word (codes "ask")
     then option_and_then (λ digest. option_and_then (λ a. option_map
@@ -247,6 +309,10 @@ command_of (word ∷ (first ∷ (second ∷ (third ∷ (fourth ∷ []))))) = com
 command_of (word ∷ (first ∷ (second ∷ (third ∷ (fourth ∷ (fifth ∷ [])))))) =
     command_of_five word first second third fourth fifth
 command_of _ = None
+
+-- what is printed for words of no command: the first word of each
+abbrev pub usage_line : List ℕ
+usage_line = codes "usage: rank build root prove verify ask serve audit sweep trial migrate give fetch audit-fetch prove-both both audit-both grow growth audit-growth\n"
 
 -- the words of a proof's check
 abbrev pub verify_words : List ℕ → List ℕ → List ℕ → List ℕ → List (List ℕ)

@@ -11,7 +11,7 @@
 //!
 //! ```
 //! // words: "rank", "X", "1" and "red hen"
-//! let command = read_words(&words); // Some(Command::Rank { collection: "X", r: 1, query: "red hen" })
+//! let command = read_words(&words); // that of a maker, MakerCommand::Rank { collection: "X", r: 1, query: "red hen" }
 //! let texts = read::collection(alloc, "X", shelf)?; // the texts of the file, or the stop that refuses it
 //! ```
 #![tactic(auto)]
@@ -38,4 +38,4 @@ pub use stops::{
     Stop, bad_line, faults_line, file_too_long, input_stop, peer, proof_too_long, proofs_too_long,
     rejected,
 };
-pub use words::{Command, number, read_words};
+pub use words::{AuditorCommand, CheckerCommand, Command, MakerCommand, USAGE, number, read_words};

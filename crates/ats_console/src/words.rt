@@ -3,8 +3,7 @@
 ghost use Rattle.std.specs.Prelude.{◌≡◌, map, string_bytes, option_map};
 ghost use Rattle.std.specs.List.{list_all, list_any};
 ghost use Rattle.std.specs.Char.{is_ascii_digit, is_ascii_uppercase};
-ghost use Rattle.ats_console.specs.Words.{is_number_word, number_of, connections_of, algorithm_of, root_word, command_of_one, command_of_two, command_of_three, command_of_four, command_of_five, command_of};
-ghost use Rattle.ats_console.specs.Meaning.{meaning};
+ghost use Rattle.ats_console.specs.Words.{is_number_word, number_of, connections_of, algorithm_of, root_word, meaning, command_of_one, command_of_two, command_of_three, command_of_four, command_of_five, command_of};
 
 use ats_proof::Algorithm;
 use hex::FromHex;
@@ -72,9 +71,9 @@ fn root_word(word: &str) -> Option<[u8; 32]>
     <[u8; 32] as FromHex>::from_hex(word).ok()
 }
 
-/// What the words ask for. A word that is a name or a text is lent.
+/// A command of who has the texts: it ranks them, indexes them, or makes what others check.
 #[derive(Drop)]
-pub enum Command<'a> {
+pub enum MakerCommand<'a> {
     /// `rank COLLECTION R QUERY`
     Rank {
         collection: &'a str,
@@ -85,6 +84,11 @@ pub enum Command<'a> {
     Build {
         collection: &'a str,
         index: &'a str,
+    },
+    /// `migrate INDEX INDEX2`
+    Migrate {
+        index: &'a str,
+        migrated: &'a str,
     },
     /// `root INDEX`
     Root {
@@ -98,6 +102,29 @@ pub enum Command<'a> {
         query: &'a str,
         proof: &'a str,
     },
+    /// `give INDEX DOC FILE`
+    Give {
+        index: &'a str,
+        doc: u32,
+        file: &'a str,
+    },
+    /// `prove-both INDEX QUERY PROOF`
+    ProveBoth {
+        index: &'a str,
+        query: &'a str,
+        proof: &'a str,
+    },
+    /// `grow OLDINDEX NEWINDEX FILE`
+    Grow {
+        old: &'a str,
+        new: &'a str,
+        file: &'a str,
+    },
+}
+
+/// A command of a reader, who holds only roots: it checks a file, and prints what the file shows.
+#[derive(Drop)]
+pub enum CheckerCommand<'a> {
     /// `verify ROOT R QUERY PROOF`
     Verify {
         root: [u8; 32],
@@ -105,6 +132,71 @@ pub enum Command<'a> {
         query: &'a str,
         proof: &'a str,
     },
+    /// `fetch ROOT DOC FILE`
+    Fetch {
+        root: [u8; 32],
+        doc: u32,
+        file: &'a str,
+    },
+    /// `both ROOT QUERY PROOF`
+    Both {
+        root: [u8; 32],
+        query: &'a str,
+        proof: &'a str,
+    },
+    /// `growth OLDROOT NEWROOT FILE`
+    Growth {
+        old: [u8; 32],
+        new: [u8; 32],
+        file: &'a str,
+    },
+}
+
+/// A command of who has the archive, and wants to know whether what was accepted is right.
+#[derive(Drop)]
+pub enum AuditorCommand<'a> {
+    /// `audit INDEX R QUERY PROOF`
+    Audit {
+        index: &'a str,
+        r: u32,
+        query: &'a str,
+        proof: &'a str,
+    },
+    /// `audit-fetch INDEX DOC FILE`
+    AuditFetch {
+        index: &'a str,
+        doc: u32,
+        file: &'a str,
+    },
+    /// `audit-both INDEX QUERY PROOF`
+    AuditBoth {
+        index: &'a str,
+        query: &'a str,
+        proof: &'a str,
+    },
+    /// `audit-growth OLDINDEX NEWINDEX FILE`
+    AuditGrowth {
+        old: &'a str,
+        new: &'a str,
+        file: &'a str,
+    },
+    /// `sweep INDEX LIST`
+    Sweep {
+        index: &'a str,
+        list: &'a str,
+    },
+    /// `trial NUMBER`
+    Trial {
+        number: u32,
+    },
+}
+
+/// What the words ask for. A word that is a name or a text is lent.
+#[derive(Drop)]
+pub enum Command<'a> {
+    Maker(MakerCommand<'a>),
+    Checker(CheckerCommand<'a>),
+    Auditor(AuditorCommand<'a>),
     /// `ask ROOT ALG R QUERY ADDRESS`
     Ask {
         root: [u8; 32],
@@ -119,92 +211,21 @@ pub enum Command<'a> {
         connections: u32,
         address: &'a str,
     },
-    /// `audit INDEX R QUERY PROOF`
-    Audit {
-        index: &'a str,
-        r: u32,
-        query: &'a str,
-        proof: &'a str,
-    },
-    /// `sweep INDEX LIST`
-    Sweep {
-        index: &'a str,
-        list: &'a str,
-    },
-    /// `trial NUMBER`
-    Trial {
-        number: u32,
-    },
-    /// `migrate INDEX INDEX2`
-    Migrate {
-        index: &'a str,
-        migrated: &'a str,
-    },
-    /// `give INDEX DOC FILE`
-    Give {
-        index: &'a str,
-        doc: u32,
-        file: &'a str,
-    },
-    /// `fetch ROOT DOC FILE`
-    Fetch {
-        root: [u8; 32],
-        doc: u32,
-        file: &'a str,
-    },
-    /// `audit-fetch INDEX DOC FILE`
-    AuditFetch {
-        index: &'a str,
-        doc: u32,
-        file: &'a str,
-    },
-    /// `prove-both INDEX QUERY PROOF`
-    ProveBoth {
-        index: &'a str,
-        query: &'a str,
-        proof: &'a str,
-    },
-    /// `both ROOT QUERY PROOF`
-    Both {
-        root: [u8; 32],
-        query: &'a str,
-        proof: &'a str,
-    },
-    /// `audit-both INDEX QUERY PROOF`
-    AuditBoth {
-        index: &'a str,
-        query: &'a str,
-        proof: &'a str,
-    },
-    /// `grow OLDINDEX NEWINDEX FILE`
-    Grow {
-        old: &'a str,
-        new: &'a str,
-        file: &'a str,
-    },
-    /// `growth OLDROOT NEWROOT FILE`
-    Growth {
-        old: [u8; 32],
-        new: [u8; 32],
-        file: &'a str,
-    },
-    /// `audit-growth OLDINDEX NEWINDEX FILE`
-    AuditGrowth {
-        old: &'a str,
-        new: &'a str,
-        file: &'a str,
-    },
 }
+
+/// What is printed for words of no command: the first word of each, and a line feed.
+pub const USAGE: &str =
+    "usage: rank build root prove verify ask serve audit sweep trial migrate give fetch audit-fetch prove-both both audit-both grow growth audit-growth\n";
 
 // The command of this word and one argument, if there is one.
 fn read_one<'a>(word: &str, first: &'a str) -> Option<Command<'a>>
     ensures { option_map meaning result ≡ command_of_one word.now first.now }
 {
     match word {
-        "root" => Some(Command::Root { index: first }),
-        "trial" => Some(Command::Trial {
+        "root" => Some(Command::Maker(MakerCommand::Root { index: first })),
+        "trial" => Some(Command::Auditor(AuditorCommand::Trial {
             number: number(first)?,
-        }),
+        })),
         _ => None,
     }
 }
@@ -214,18 +235,18 @@ fn read_two<'a>(word: &str, first: &'a str, second: &'a str) -> Option<Command<'
     ensures { option_map meaning result ≡ command_of_two word.now first.now second.now }
 {
     match word {
-        "build" => Some(Command::Build {
+        "build" => Some(Command::Maker(MakerCommand::Build {
             collection: first,
             index: second,
-        }),
-        "sweep" => Some(Command::Sweep {
+        })),
+        "sweep" => Some(Command::Auditor(AuditorCommand::Sweep {
             index: first,
             list: second,
-        }),
-        "migrate" => Some(Command::Migrate {
+        })),
+        "migrate" => Some(Command::Maker(MakerCommand::Migrate {
             index: first,
             migrated: second,
-        }),
+        })),
         _ => None,
     }
 }
@@ -240,61 +261,61 @@ fn read_three<'a>(
     ensures { option_map meaning result ≡ command_of_three word.now first.now second.now third.now }
 {
     match word {
-        "rank" => Some(Command::Rank {
+        "rank" => Some(Command::Maker(MakerCommand::Rank {
             collection: first,
             r: number(second)?,
             query: third,
-        }),
+        })),
         "serve" => Some(Command::Serve {
             index: first,
             connections: connections(second)?,
             address: third,
         }),
-        "give" => Some(Command::Give {
+        "give" => Some(Command::Maker(MakerCommand::Give {
             index: first,
             doc: number(second)?,
             file: third,
-        }),
-        "fetch" => Some(Command::Fetch {
+        })),
+        "fetch" => Some(Command::Checker(CheckerCommand::Fetch {
             root: root_word(first)?,
             doc: number(second)?,
             file: third,
-        }),
-        "audit-fetch" => Some(Command::AuditFetch {
+        })),
+        "audit-fetch" => Some(Command::Auditor(AuditorCommand::AuditFetch {
             index: first,
             doc: number(second)?,
             file: third,
-        }),
-        "prove-both" => Some(Command::ProveBoth {
+        })),
+        "prove-both" => Some(Command::Maker(MakerCommand::ProveBoth {
             index: first,
             query: second,
             proof: third,
-        }),
-        "both" => Some(Command::Both {
+        })),
+        "both" => Some(Command::Checker(CheckerCommand::Both {
             root: root_word(first)?,
             query: second,
             proof: third,
-        }),
-        "audit-both" => Some(Command::AuditBoth {
+        })),
+        "audit-both" => Some(Command::Auditor(AuditorCommand::AuditBoth {
             index: first,
             query: second,
             proof: third,
-        }),
-        "grow" => Some(Command::Grow {
+        })),
+        "grow" => Some(Command::Maker(MakerCommand::Grow {
             old: first,
             new: second,
             file: third,
-        }),
-        "growth" => Some(Command::Growth {
+        })),
+        "growth" => Some(Command::Checker(CheckerCommand::Growth {
             old: root_word(first)?,
             new: root_word(second)?,
             file: third,
-        }),
-        "audit-growth" => Some(Command::AuditGrowth {
+        })),
+        "audit-growth" => Some(Command::Auditor(AuditorCommand::AuditGrowth {
             old: first,
             new: second,
             file: third,
-        }),
+        })),
         _ => None,
     }
 }
@@ -310,18 +331,18 @@ fn read_four<'a>(
     ensures { option_map meaning result ≡ command_of_four word.now first.now second.now third.now fourth.now }
 {
     match word {
-        "verify" => Some(Command::Verify {
+        "verify" => Some(Command::Checker(CheckerCommand::Verify {
             root: root_word(first)?,
             r: number(second)?,
             query: third,
             proof: fourth,
-        }),
-        "audit" => Some(Command::Audit {
+        })),
+        "audit" => Some(Command::Auditor(AuditorCommand::Audit {
             index: first,
             r: number(second)?,
             query: third,
             proof: fourth,
-        }),
+        })),
         _ => None,
     }
 }
@@ -338,13 +359,13 @@ fn read_five<'a>(
     ensures { option_map meaning result ≡ command_of_five word.now first.now second.now third.now fourth.now fifth.now }
 {
     match word {
-        "prove" => Some(Command::Prove {
+        "prove" => Some(Command::Maker(MakerCommand::Prove {
             index: first,
             algorithm: algorithm(second)?,
             r: number(third)?,
             query: fourth,
             proof: fifth,
-        }),
+        })),
         "ask" => Some(Command::Ask {
             root: root_word(first)?,
             algorithm: algorithm(second)?,

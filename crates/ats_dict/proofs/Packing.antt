@@ -17,8 +17,8 @@ use Rattle.ats_dict.specs.Inner.Packed.{front_of, entry_of, entries_of, IsPacked
 range_kept : (bytes more : List ℕ) (start end : ℕ) → start ≤ end → end ≤ length bytes → slice_range (bytes ++ more) start end ≡ slice_range bytes start end
 range_kept bytes more start end rises within =
     let first : drop start (bytes ++ more) ≡ drop start bytes ++ more = drop-append-le start bytes more (omega arith) in
-    let room : end - start ≤ length (drop start bytes) = omega (arith, length-drop start bytes) in
-    ap (take (end - start)) first ∙ take-append-le (end - start) (drop start bytes) more room
+    let space : end - start ≤ length (drop start bytes) = omega (arith, length-drop start bytes) in
+    ap (take (end - start)) first ∙ take-append-le (end - start) (drop start bytes) more space
 
 range_last : (bytes more : List ℕ) (start end : ℕ) → start ≡ length bytes → end ≡ length bytes + length more → slice_range (bytes ++ more) start end ≡ more
 range_last bytes more start end is until =

@@ -221,7 +221,7 @@ impl Leaves for Dictionary {
     fn len(&self) -> u32
         ensures value { result ≡ length (dict_leaves self.now) }
         ensures count { result ≡ length self.now + 2 }
-        ensures kept { IsDictionary self.now }
+        ensures holds { IsDictionary self.now }
     {
         self.entries.len() as u32 + 2
     }

@@ -143,7 +143,7 @@ impl Leaves for DocTerms {
         ensures value { result ≡ length (terms_leaves self.now) }
         ensures count { result ≡ length self.now + 2 }
         ensures few { result ≤ 2 ^ 20 + 2 }
-        ensures kept { AreImpacts self.now }
+        ensures holds { AreImpacts self.now }
     {
         self.counts.len() as u32 + 2
     }

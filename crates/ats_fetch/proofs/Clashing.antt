@@ -1,5 +1,5 @@
 -- The first collision of a text: the header, or the first one on the path to the text.
-use Rattle.std.proofs.Common.{◌≡◌, ◌∙◌, ◌<◌, ◌^◌, ℕ, List, length, map, not, ◌||◌, Option, Some, None, IfSome, MatchOption, refl, sym, ap, subst}
+use Rattle.std.proofs.Common.{◌≡◌, ◌∙◌, ◌<◌, ◌^◌, ℕ, List, length, map, not, ◌||◌, Option, Some, None, IfSome, refl, sym, ap}
 use Rattle.std.specs.Prelude.{Result, Ok, Err, IfOk}
 use Rattle.std.specs.Option.{option_map}
 use Rattle.std.specs.Str.{bytes_eq}

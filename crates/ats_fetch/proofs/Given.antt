@@ -54,7 +54,7 @@ module _ (H : List ℕ → List ℕ) (sized : (m : List ℕ) → length (H m) �
       text_short = are.within.short doc [] less
 
   pub given-accepted : AcceptsText H (root_of H archive) doc given
-  given-accepted = record { kept = (refl, (less, (given-fits, (rebuilds, tt)))) }
+  given-accepted = record { holds = (refl, (less, (given-fits, (rebuilds, tt)))) }
 
   -- ---- each string is the archive's own
 

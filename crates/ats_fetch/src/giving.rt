@@ -63,8 +63,8 @@ fn spelled(
     ensures { IfOk result (λ bytes.
         IsTextProof bytes (record { format = format; header = header.now; text = text.now; digests = digests.now })) }
 {
-    let room = OTHER_BYTES + text.len() + DIGEST_BYTES * digests.len();
-    let mut bytes = Bytes::with_room(alloc, room)?;
+    let size = OTHER_BYTES + text.len() + DIGEST_BYTES * digests.len();
+    let mut bytes = Bytes::with_room(alloc, size)?;
     bytes.extend(&MAGIC)?;
     put_archive(&mut bytes, format, header)?;
     bytes.extend(&(text.len() as u32).to_be_bytes())?;

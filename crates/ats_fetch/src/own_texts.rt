@@ -143,7 +143,7 @@ fn string_in<'a, H: Hash32>(
     requires some { 1 ≤ n }
     requires within { from + n ≤ length texts.now }
     requires shallow { depth ≤ 32 }
-    requires room { steps.old ≤ 2 ^ 62 }
+    requires space { steps.old ≤ 2 ^ 62 }
     ensures { option_map bytes_of result
         ≡ string_at H.hash (tree_of (take n (drop from texts.now))) (path_of depth turns) }
 {
@@ -177,7 +177,7 @@ fn string_in<'a, H: Hash32>(
 fn root_of_texts<H: Hash32>(texts: &Collection, from: u32, n: u32, steps: &mut Steps) -> [u8; 32]
     requires some { 1 ≤ n }
     requires inside { from + n ≤ length texts.now }
-    requires room { steps.old ≤ 2 ^ 63 }
+    requires space { steps.old ≤ 2 ^ 63 }
     ensures value { result ≡ mth H.hash (take n (drop from texts.now)) }
     ensures cost { steps.new ≤ steps.old + 2 * n }
 {

@@ -3,7 +3,7 @@ use Rattle.std.proofs.Common.{◌≡◌, ℕ, ◌≤◌, List, [], ◌∷◌, �
 use Rattle.std.proofs.lemmas.List.{length-reverse, length-take, reverse-reverse}
 use Rattle.std.proofs.lemmas.List.Elements.{All-nil, All-cons}
 use Rattle.ats_tree.specs.Paths.{Path}
-use Rattle.ats_tree.specs.Tree.{Tree, empty, leaf, node, tree_of, digest_of, mth}
+use Rattle.ats_tree.specs.Tree.{Tree, node, tree_of, digest_of, mth}
 use Rattle.ats_commit.specs.Archive.{Archive}
 use Rattle.ats_commit.specs.Root.{root_of}
 use Rattle.ats_consistency.specs.Headline.{IsPrefix}
@@ -67,7 +67,7 @@ module _ (H : List ℕ → List ℕ) (older newer : Archive) (is : IsPrefix olde
 
   pub honest_accepted : AcceptsGrowth H (root_of H older) (root_of H newer) (honest H older newer)
   honest_accepted = record {
-    kept = (
+    holds = (
       refl,
       (
         refl,

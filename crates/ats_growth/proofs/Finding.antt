@@ -116,7 +116,7 @@ found-grown H sized older newer bytes g grown old_are new_are says old new is_ol
       growth = g;
       accepted = record { says = says; accepts = under };
       none = none;
-      grows = record { old = grows.old ∙ sym numbers.0; new = grows.new ∙ sym numbers.1; kept = grows.kept };
+      grows = record { old = grows.old ∙ sym numbers.0; new = grows.new ∙ sym numbers.1; prefix = grows.prefix };
     }
 
 -- ---- the texts
@@ -202,10 +202,10 @@ module _ (H : List ℕ → List ℕ) (older newer : Archive) (g : Growth) where
         is ∙ (λ i. first_unlike second_of
         (flat_map (range_pairs H) (ranges (turns (many_old i) (many_new i)) (whole olds older.texts m own_old all_old i) (whole news newer.texts n own_new all_new i))))
 
-    -- texts that are all kept differ in no range
+    -- texts of which none is withdrawn differ in no range
     pub prefix-shared : 1 ≤ m → IsPrefix olds news → InShared None
-    prefix-shared some kept =
-        let is : IsPrefix older.texts newer.texts = subst (λ (xs : List (List ℕ)). IsPrefix xs newer.texts) own_old (subst (λ (ys : List (List ℕ)). IsPrefix olds ys) own_new kept)
+    prefix-shared some prefix =
+        let is : IsPrefix older.texts newer.texts = subst (λ (xs : List (List ℕ)). IsPrefix xs newer.texts) own_old (subst (λ (ys : List (List ℕ)). IsPrefix olds ys) own_new prefix)
         in let some' : 1 ≤ length older.texts = omega (arith, some, all_old, ap length own_old)
         in let old : length older.texts ≡ g.old.documents = sym (sym many_old ∙ all_old ∙ ap length own_old)
         in let new : length newer.texts ≡ g.new.documents = sym (sym many_new ∙ all_new ∙ ap length own_new)

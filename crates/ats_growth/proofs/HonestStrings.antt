@@ -8,7 +8,7 @@ use Rattle.ats_commit.specs.Root.{header_parts, header_string}
 use Rattle.ats_tree.specs.Differences.{Hashed, moved, Difference, difference_or, first_difference}
 use Rattle.ats_tree.specs.Paths.{Path}
 use Rattle.ats_tree.specs.Strings.{string_at}
-use Rattle.ats_tree.specs.Tree.{Tree, empty, leaf, node, tree_of, digest_of, mth}
+use Rattle.ats_tree.specs.Tree.{Tree, node, tree_of, digest_of, mth}
 use Rattle.ats_tree.proofs.Public.{Collides, difference-collides}
 use Rattle.ats_consistency.specs.Headline.{IsPrefix}
 use Rattle.ats_consistency.specs.Pair.{Roots, roots}

@@ -6,7 +6,7 @@ use Rattle.std.proofs.lemmas.Slice.Eq.{bytes_eq-Decides}
 use Rattle.ats_consistency.specs.Headline.{IsPrefix}
 use Rattle.ats_growth.specs.Honest.{IsFirstApart}
 
--- each old document is kept
+-- each old document is where it was
 pub prefix_of_all : (old new : List (List ℕ)) → ((i : ℕ) → i < length old → slice_get new i ≡ slice_get old i) → IsPrefix old new
 prefix_of_all [] new same = refl
 prefix_of_all (x ∷ xs) [] same = let none : ◌≡◌ {A = Option (List ℕ)} None (Some x) = same 0 (omega arith) in absurd (cc)
@@ -15,17 +15,17 @@ prefix_of_all (x ∷ xs) (y ∷ ys) same =
     in let e : y ≡ x = cc
     in ap₂ (λ (z : List ℕ) (zs : List (List ℕ)). z ∷ zs) e (prefix_of_all xs ys (λ i less. same (suc i) (omega arith)))
 
--- an old document that is not kept rules it out
+-- a withdrawn document rules it out
 pub not_prefix : (old new : List (List ℕ)) (doc : ℕ) → IsFirstApart old new doc → IsPrefix old new → ⊥
-not_prefix old new doc apart is = apart.apart (kept old new doc is apart.inside)
+not_prefix old new doc apart is = apart.apart (same_text old new doc is apart.inside)
   where
-    kept : (old new : List (List ℕ)) (i : ℕ) → take (length old) new ≡ old → i < length old → slice_get new i ≡ slice_get old i
-    kept [] new i is less = absurd (omega arith)
-    kept (x ∷ xs) [] i is less = absurd (cc)
-    kept (x ∷ xs) (y ∷ ys) zero is less = let e : y ≡ x = cc in ap Some e
-    kept (x ∷ xs) (y ∷ ys) (suc i) is less = let e : take (length xs) ys ≡ xs = cc in kept xs ys i e (omega arith)
+    same_text : (old new : List (List ℕ)) (i : ℕ) → take (length old) new ≡ old → i < length old → slice_get new i ≡ slice_get old i
+    same_text [] new i is less = absurd (omega arith)
+    same_text (x ∷ xs) [] i is less = absurd (cc)
+    same_text (x ∷ xs) (y ∷ ys) zero is less = let e : y ≡ x = cc in ap Some e
+    same_text (x ∷ xs) (y ∷ ys) (suc i) is less = let e : take (length xs) ys ≡ xs = cc in same_text xs ys i e (omega arith)
 
--- whether a document is kept, by comparing its two texts
+-- whether a document was withdrawn, by comparing its two texts
 pub same_text_is : (old new : List (List ℕ)) (doc : ℕ) (a b : List ℕ) (equal : Bool) → doc < length old → doc < length new → a ≡ get_or old doc a → b ≡ get_or new doc b
     → equal ≡ bytes_eq a b → equal ≡ true ↔ slice_get new doc ≡ slice_get old doc
 same_text_is old new doc a b equal inside there is_a is_b test =
@@ -36,7 +36,7 @@ same_text_is old new doc a b equal inside there is_a is_b test =
       (λ same. let both : ◌≡◌ {A = Option (List ℕ)} (Some b) (Some a) = sym at_new ∙ same ∙ at_old in let e : a ≡ b = cc in test ∙ (bytes_eq-Decides a b).1 e),
     )
 
--- a document past the end of the new texts is not kept
+-- a document past the end of the new texts was withdrawn
 pub past_is : (old new : List (List ℕ)) (doc : ℕ) → doc < length old → length new ≤ doc → false ≡ true ↔ slice_get new doc ≡ slice_get old doc
 past_is old new doc some past =
     let at_new : slice_get new doc ≡ None = slice_get_past new doc past

@@ -6,7 +6,7 @@ use Rattle.std.proofs.lemmas.Grind.{flat_map-append}
 use Rattle.std.proofs.lemmas.List.{append-nil, get_or_default}
 use Rattle.ats_tree.specs.Paths.{Path}
 use Rattle.ats_tree.specs.Strings.{string_at}
-use Rattle.ats_tree.specs.Tree.{Tree, empty, leaf, node, digest_of}
+use Rattle.ats_tree.specs.Tree.{Tree, leaf, node, digest_of}
 use Rattle.ats_tree.proofs.Public.{part-leaf}
 use Rattle.ats_consistency.specs.Strings.{Range, beside, all_strings, ranges, range_pairs, second_of, part_of}
 use Rattle.ats_consistency.proofs.Public.{Shares}
@@ -39,7 +39,7 @@ module _ (H : List ℕ → List ℕ) where
       ∙ unlike-append second_of (flat_map (range_pairs H) rs) (flat_map (range_pairs H) (one ∷ []))
       ∙ ap (or_two (in_ranges rs)) (unlike-alone t u)
 
-  -- texts that are all kept differ in no range
+  -- texts of which none is withdrawn differ in no range
   pub none-shared : (path : Path) (t u : Tree (List ℕ)) → Shares path t u → in_ranges (ranges path t u) ≡ None
   none-shared [] t u same =
       unlike-alone t u ∙ ap (λ (v : Tree (List ℕ)). first_unlike (string_at H u) (all_strings H v)) same ∙ unlike-none H u

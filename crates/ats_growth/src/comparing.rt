@@ -34,7 +34,7 @@ pub(crate) fn digest_of_range<H: Hash32>(
 ) -> [u8; 32]
     requires some { 1 ≤ n }
     requires inside { from + n ≤ length texts.now }
-    requires room { steps.old ≤ 2 ^ 63 }
+    requires space { steps.old ≤ 2 ^ 63 }
     ensures digest { result ≡ digest_of H.hash (part_of from n texts.now) }
     ensures cost { steps.new ≤ steps.old + 2 * n }
 {
@@ -53,7 +53,7 @@ fn at_end<'a, H: Hash32>(
 ) -> Side<'a>
     requires some { 1 ≤ n }
     requires inside { from + n ≤ length texts.now }
-    requires room { steps.old ≤ 2 ^ 63 }
+    requires space { steps.old ≤ 2 ^ 63 }
     ensures end { IsEnd H.hash digest (part_of from n texts.now) result }
     ensures cost { steps.new ≤ steps.old + 2 * n }
 {
@@ -72,7 +72,7 @@ fn last_digest<H: Hash32>(
     steps: &mut Steps,
 ) -> [u8; 32]
     requires enough { need [] known ≤ length (digests_of digests.old) }
-    requires room { steps.old + 1 < 2 ^ 64 }
+    requires space { steps.old + 1 < 2 ^ 64 }
     ensures paired { ArePaired H.hash known_root.now [] known (digests_of digests.old) result result (digests_of digests.new) }
     ensures cost { steps.new ≤ steps.old + 1 }
 {
@@ -123,7 +123,7 @@ pub(crate) fn compare<'a, H: Hash32>(
     requires inside_old { texts.from + m ≤ length texts.old.now }
     requires inside_new { texts.from + n ≤ length texts.new.now }
     requires enough { need (turns m n) known ≤ length (digests_of digests.old) }
-    requires room { steps.old + 9 * n ≤ 2 ^ 63 }
+    requires space { steps.old + 9 * n ≤ 2 ^ 63 }
     ensures compared { AreCompared H.hash known_root.now (turns m n) known
         (digests_of digests.old) (part_of texts.entry.from m texts.entry.old.now)
         (part_of texts.entry.from n texts.entry.new.now) result (digests_of digests.new) }

@@ -73,7 +73,7 @@ fn put_range<H: Hash32>(
 ) -> Result<(), OutOfMemory>
     requires some { 1 ≤ n }
     requires inside { from + n ≤ length texts.now }
-    requires room { steps.old ≤ 2 ^ 63 }
+    requires space { steps.old ≤ 2 ^ 63 }
     ensures put { OnOk result (bytes.new ≡ bytes.old ++ mth H.hash (take n (drop from texts.now))) }
     ensures cost { steps.new ≤ steps.old + 2 * n }
 {
@@ -95,7 +95,7 @@ fn put_digests<H: Hash32>(
     requires some { 1 ≤ m }
     requires within { m ≤ n }
     requires inside { from + n ≤ length texts.now }
-    requires room { steps.old + 2 * n ≤ 2 ^ 63 }
+    requires space { steps.old + 2 * n ≤ 2 ^ 63 }
     ensures put { OnOk result (bytes.new
         ≡ bytes.old ++ digest_bytes H.hash (turns m n) known (tree_of (take n (drop from texts.now)))) }
     ensures cost { steps.new ≤ steps.old + 2 * n }
@@ -141,7 +141,7 @@ fn bytes_of<H: Hash32>(alloc: Global, old: &Index<H>, new: &Index<H>) -> Result<
 /// `Differs`, if the old texts are not the first of the new ones.
 pub fn grow<H: Hash32>(alloc: Global, old: &Index<H>, new: &Index<H>) -> Result<Bytes, GrowFault>
     ensures made { IfOk result (λ bytes. IsGrowth bytes (honest H.hash old.now new.now)) }
-    ensures kept { OnOk result (IsPrefix old.now.texts new.now.texts) }
+    ensures prefix { OnOk result (IsPrefix old.now.texts new.now.texts) }
     ensures fault { IfErr result (IsGrowFault old.now.texts new.now.texts) }
 {
     if let Some(doc) = first_apart(old.collection(), new.collection()) {

@@ -32,7 +32,7 @@ fn at_document<'a, H: Hash32>(
 ) -> Side<'a>
     requires inside_old { doc < length old.now }
     requires inside_new { doc < length new.now }
-    requires room { steps.old + 2 < 2 ^ 64 }
+    requires space { steps.old + 2 < 2 ^ 64 }
     ensures range { IsRange H.hash (part_of doc 1 old.now) (part_of doc 1 new.now) result }
     ensures cost { steps.new ≡ steps.old + 2 }
 {
@@ -66,7 +66,7 @@ fn compare_range<'a, H: Hash32>(
     requires some { 1 ≤ n }
     requires inside_old { from + n ≤ length old.now }
     requires inside_new { from + n ≤ length new.now }
-    requires room { steps.old + 4 * n ≤ 2 ^ 63 }
+    requires space { steps.old + 4 * n ≤ 2 ^ 63 }
     ensures range { IsRange H.hash (part_of from n old.now) (part_of from n new.now) result }
     ensures cost { steps.new + 2 ≤ steps.old + 4 * n }
 {
@@ -102,7 +102,7 @@ pub(crate) fn compare_ranges<'a, H: Hash32>(
     requires within { m ≤ n }
     requires inside_old { from + m ≤ length old.now }
     requires inside_new { from + n ≤ length new.now }
-    requires room { steps.old + 4 * n ≤ 2 ^ 63 }
+    requires space { steps.old + 4 * n ≤ 2 ^ 63 }
     ensures unlike { option_map strings_of result ≡ first_unlike second_of
         (flat_map (range_pairs H.hash) (ranges (turns m n) (part_of from m old.now) (part_of from n new.now))) }
     ensures cost { steps.new ≤ steps.old + 4 * n }

@@ -42,7 +42,7 @@ impl Counts {
 fn count_term(counts: &mut [u32], query: &Query, term: &[u8])
     requires query { IsQuery query.now }
     requires same { length counts.old ≡ length query.now }
-    requires room { All (λ count. count < 2 ^ 31) counts.old }
+    requires space { All (λ count. count < 2 ^ 31) counts.old }
     ensures { (k : ℕ) → k < length query.now → slice_index counts.new k
         ≡ slice_index counts.old k + (if bytes_eq (slice_index_or query.now k ([], 0)).0 term.now then 1 else 0) }
 {

@@ -34,7 +34,7 @@ tree-bound H sized archive root doc proof range accepts header =
     let strings : List (Hashed Node) = node_strings H proof.header.documents shown proof.digests in
     let Leaves : Type 0 = All (λ (s : Shown). slice_get archive.texts s.0 ≡ Some s.1) shown in
     let bound : IsBoundTo H proof.header.documents shown proof.digests archive.texts =
-    bound_to H sized proof.header.documents shown proof.digests proof.header.texts_root (omega_rises doc, tt) range.sized accepts.kept.1.1.1.0
+    bound_to H sized proof.header.documents shown proof.digests proof.header.texts_root (omega_rises doc, tt) range.sized accepts.holds.1.1.1.0
     archive.texts (sym header.number) (sym header.raw) in
     let own : MatchOption (first_difference (node_string H archive.texts) strings) (IsOwnText archive doc proof) (Collides H) =
     binds-weaker H (node_string H archive.texts) strings Leaves (IsOwnText archive doc proof)
@@ -57,7 +57,7 @@ text-bound H sized archive doc proof are range accepts =
       | inl equal ↦
           subst Good (sym (cond-true _ _ _ equal))
           (tree-bound H sized archive (root_of H archive) doc proof range accepts (own_numbers H sized archive proof.format proof.header are range.header equal))
-      | inr other ↦ subst Good (sym (cond-false _ _ _ other)) accepts.kept.0
+      | inr other ↦ subst Good (sym (cond-false _ _ _ other)) accepts.holds.0
     ]
 
 -- the first difference is then the first collision

@@ -1,31 +1,26 @@
 -- A text has at most one first refusal, and none if it is accepted.
-use Rattle.std.proofs.Common.{◌≡◌, ◌∙◌, ℕ, List, length, true, Result, Ok, Err, refl, sym, ap, arith}
+use Rattle.std.proofs.Common.{◌≡◌, ◌∙◌, ℕ, List, length, true, Result, Ok, Err, refl, ap, arith}
 use Rattle.std.specs.Result.{is_ok, IfErr}
-use Rattle.ats_base.specs.Rules.{Group}
-use Rattle.ats_base.proofs.Public.{IsExact, AreExact, not_all_hold, one_first}
+use Rattle.ats_base.proofs.Public.{AreExact, fails_by, not_all_hold, one_first}
 use Rattle.ats_inclusion.specs.Accepts.{IsRooted, IsRootFault, IsInside, IsDocFault, IsFit, IsMisfit, IsTextRooted, IsTextRootFault, text_rules, AcceptsText, IsFirstTextRefusal}
 use Rattle.ats_inclusion.specs.Value.{TextProof}
 use Rattle.ats_refusal.specs.declared.text.TextRefusal.{TextRefusal}
 use Rattle.ats_refusal.specs.declared.text.TextRefusal.TheVariants.{OtherRoot, DocOut, TextMisfit, TextRoot}
-
--- a group of rules that fails only by x
-fails_by : (x : TextRefusal) (group : Group TextRefusal) → ((a : TextRefusal) → group.fault a → (a ≡ x) × (group.kept → ⊥)) → IsExact group
-fails_by x group is = record { breaks = λ a fault kept. (is a fault).1 kept; one = λ a b fault also. (is a fault).0 ∙ sym (is b also).0 }
 
 root-is : (H : List ℕ → List ℕ) (root : List ℕ) (proof : TextProof) (a : TextRefusal) → IsRootFault H root proof a → (a ≡ OtherRoot) × (IsRooted H root proof → ⊥)
 root-is H root proof OtherRoot is = (refl, is)
 root-is H root proof _ is = absurd is
 
 doc-is : (doc : ℕ) (proof : TextProof) (a : TextRefusal) → IsDocFault doc proof a → (a ≡ DocOut proof.header.documents) × (IsInside doc proof → ⊥)
-doc-is doc proof (DocOut documents) is = (ap DocOut is.0, λ kept. omega (arith, is.0, is.1, kept))
+doc-is doc proof (DocOut documents) is = (ap DocOut is.0, λ holds. omega (arith, is.0, is.1, holds))
 doc-is doc proof _ is = absurd is
 
 misfit-is : (doc : ℕ) (proof : TextProof) (a : TextRefusal) → IsMisfit doc proof a → (a ≡ TextMisfit (length proof.digests)) × (IsFit doc proof → ⊥)
-misfit-is doc proof (TextMisfit digests) is = (ap TextMisfit is.0, λ kept. is.1 (is.0 ∙ kept))
+misfit-is doc proof (TextMisfit digests) is = (ap TextMisfit is.0, λ holds. is.1 (is.0 ∙ holds))
 misfit-is doc proof _ is = absurd is
 
 text-is : (H : List ℕ → List ℕ) (doc : ℕ) (proof : TextProof) (a : TextRefusal) → IsTextRootFault H doc proof a → (a ≡ TextRoot) × (IsTextRooted H doc proof → ⊥)
-text-is H doc proof TextRoot is = (refl, λ kept. let rebuilt = is.rebuilt in is.differs (cc))
+text-is H doc proof TextRoot is = (refl, λ holds. let rebuilt = is.rebuilt in is.differs (cc))
 text-is H doc proof _ is = absurd is
 
 exact : (H : List ℕ → List ℕ) (root : List ℕ) (doc : ℕ) (proof : TextProof) → AreExact (text_rules H root doc proof)
@@ -44,7 +39,7 @@ one_refusal H root doc proof a b is also = one_first (text_rules H root doc proo
 -- a text that is accepted is not refused
 pub not_refused : (H : List ℕ → List ℕ) (root : List ℕ) (doc : ℕ) (proof : TextProof) (refusal : TextRefusal)
     → AcceptsText H root doc proof → IsFirstTextRefusal H root doc proof refusal → ⊥
-not_refused H root doc proof refusal accepts is = not_all_hold (text_rules H root doc proof) refusal (exact H root doc proof) is.first accepts.kept
+not_refused H root doc proof refusal accepts is = not_all_hold (text_rules H root doc proof) refusal (exact H root doc proof) is.first accepts.holds
 
 pub accepted : (H : List ℕ → List ℕ) (root : List ℕ) (doc : ℕ) (proof : TextProof) (result : Result (Unit {0}) TextRefusal)
     → IfErr result (λ refusal. IsFirstTextRefusal H root doc proof refusal) → AcceptsText H root doc proof → is_ok result ≡ true

@@ -63,15 +63,15 @@ IsTextRootFault H doc proof _ = ⊥
 -- the rules in their order
 abbrev pub text_rules : (List ℕ → List ℕ) → List ℕ → ℕ → TextProof → List (Group TextRefusal)
 text_rules H root doc proof =
-    record { kept = IsRooted H root proof; fault = IsRootFault H root proof }
-    ∷ record { kept = IsInside doc proof; fault = IsDocFault doc proof }
-    ∷ record { kept = IsFit doc proof; fault = IsMisfit doc proof }
-    ∷ record { kept = IsTextRooted H doc proof; fault = IsTextRootFault H doc proof }
+    record { holds = IsRooted H root proof; fault = IsRootFault H root proof }
+    ∷ record { holds = IsInside doc proof; fault = IsDocFault doc proof }
+    ∷ record { holds = IsFit doc proof; fault = IsMisfit doc proof }
+    ∷ record { holds = IsTextRooted H doc proof; fault = IsTextRootFault H doc proof }
     ∷ []
 
 -- all rules hold
 pub record AcceptsText (H : List ℕ → List ℕ) (root : List ℕ) (doc : ℕ) (proof : TextProof) : Type 0 where
-  pub kept : AllHold (text_rules H root doc proof)
+  pub holds : AllHold (text_rules H root doc proof)
 
 -- the first rule that does not hold
 pub record IsFirstTextRefusal (H : List ℕ → List ℕ) (root : List ℕ) (doc : ℕ) (proof : TextProof) (refusal : TextRefusal) : Type 0 where

@@ -85,8 +85,8 @@ module _ (texts others : List (List ℕ)) (behind : List ℕ) (good : AreGood te
   more_short : length longer.text ≤ 2 ^ 20
   more_short = middle (λ (text : List ℕ). length text ≤ 2 ^ 20) others longer.text longer.more (subst AllShort longer.are good.short)
 
-  more_room : HasSpaceFor others (length longer.text)
-  more_room =
+  more_space : HasSpaceFor others (length longer.text)
+  more_space =
       let Length : List ℕ → ℕ = λ (text : List ℕ). length text in
       record {
         short = more_short;
@@ -117,13 +117,13 @@ numbers_tell m n a b small small' same = (
 -- if one run of texts is longer, the field after the other is good
 length_stands : (texts others : List (List ℕ)) (f : Format) (n : ℕ) (b : List ℕ) → AreGood texts → Longer texts others b → NoneGood (TextLength f n others) b → ⊥
 length_stands texts others f n b good longer bad =
-    bad (to_be_bytes w32 (length longer.text)) (longer.text ++ longer.rest) (length longer.text, more_room texts others b good longer, refl) (more_next texts others b good longer)
+    bad (to_be_bytes w32 (length longer.text)) (longer.text ++ longer.rest) (length longer.text, more_space texts others b good longer, refl) (more_next texts others b good longer)
 
 bytes_stand : (texts others : List (List ℕ)) (f : Format) (n size : ℕ) (b : List ℕ) → AreGood texts → HasSpaceFor others size → Longer texts others (to_be_bytes w32 size ++ b)
     → NoneGood (TextBytes f n others size) b → ⊥
-bytes_stand texts others f n size b good room longer bad =
+bytes_stand texts others f n size b good space longer bad =
     let tail : List ℕ = to_be_bytes w32 size ++ b in
-    let told = numbers_tell size (length longer.text) b (longer.text ++ longer.rest) (omega (arith, room.short)) (omega (arith, more_short texts others tail good longer))
+    let told = numbers_tell size (length longer.text) b (longer.text ++ longer.rest) (omega (arith, space.short)) (omega (arith, more_short texts others tail good longer))
     (more_next texts others tail good longer) in
     bad longer.text longer.rest (sym told.0, more_utf8 texts others tail good longer) told.1
 
@@ -195,19 +195,19 @@ module _ (f g : Format) (n m : ℕ) (texts others : List (List ℕ)) (first : Ar
   -- either the length or the bytes after it are good
   mixed : (size : ℕ) (a b : List ℕ) → HasSpaceFor others size → NoneGood (TextLength f n texts) a → NoneGood (TextBytes g m others size) b
       → (n ≡ m) × Meet texts others a (to_be_bytes w32 size ++ b) → ⊥
-  mixed size a b room bad bad' (same, inl is) =
-      bad (to_be_bytes w32 size) b (size, subst (λ (some : List (List ℕ)). HasSpaceFor some size) (sym is.0) room, refl) is.1
-  mixed size a b room bad bad' (same, inr (inl longer)) = bytes_stand texts others g m size b good room longer bad'
-  mixed size a b room bad bad' (same, inr (inr longer)) = length_stands others texts f n a good' longer bad
+  mixed size a b space bad bad' (same, inl is) =
+      bad (to_be_bytes w32 size) b (size, subst (λ (some : List (List ℕ)). HasSpaceFor some size) (sym is.0) space, refl) is.1
+  mixed size a b space bad bad' (same, inr (inl longer)) = bytes_stand texts others g m size b good space longer bad'
+  mixed size a b space bad bad' (same, inr (inr longer)) = length_stands others texts f n a good' longer bad
 
   of_bytes : (size size' : ℕ) (a b : List ℕ) → HasSpaceFor texts size → HasSpaceFor others size' → NoneGood (TextBytes f n texts size) a → NoneGood (TextBytes g m others size') b
       → (n ≡ m) × Meet texts others (to_be_bytes w32 size ++ a) (to_be_bytes w32 size' ++ b)
       → length (up_to f n texts ++ to_be_bytes w32 size) ≡ length (up_to g m others ++ to_be_bytes w32 size')
-  of_bytes size size' a b room room' bad bad' (same, inl is) =
+  of_bytes size size' a b space space' bad bad' (same, inl is) =
       let alike : length (up_to f n texts) ≡ length (up_to g m others) = ends_alike is.0 in
       omega (arith, alike, length-append (up_to f n texts) (to_be_bytes w32 size), length-append (up_to g m others) (to_be_bytes w32 size'))
-  of_bytes size size' a b room room' bad bad' (same, inr (inl longer)) = absurd (bytes_stand texts others g m size' b good room' longer bad')
-  of_bytes size size' a b room room' bad bad' (same, inr (inr longer)) = absurd (bytes_stand others texts f n size a good' room longer bad)
+  of_bytes size size' a b space space' bad bad' (same, inr (inl longer)) = absurd (bytes_stand texts others g m size' b good space' longer bad')
+  of_bytes size size' a b space space' bad bad' (same, inr (inr longer)) = absurd (bytes_stand others texts f n size a good' space longer bad)
 
 -- a field of the front that is bad, and one after the front
 abbrev IsLate : Field → Type 0

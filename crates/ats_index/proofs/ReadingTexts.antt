@@ -31,17 +31,17 @@ module _ (bytes : List ℕ) (format : Format) (documents : ℕ) (texts : List (L
     reached = first;
     place = omega (arith, place);
     same = is;
-    bad = λ good more (size, room, good_is) same. none size more room (same ∙ ap (λ xs. xs ++ more) good_is);
+    bad = λ good more (size, space, good_is) same. none size more space (same ∙ ap (λ xs. xs ++ more) good_is);
   }
 
   -- no good text of this length follows
   pub bytes_bad : (size : ℕ) → AreFirst documents texts → HasSpaceFor texts size → rest ≡ to_be_bytes w32 size ++ drop 4 rest
       → ((text more : List ℕ) → length text ≡ size → IsUtf8 text → drop 4 rest ≢ text ++ more)
       → IsFirstBad bytes (length bytes - length rest + 4)
-  bytes_bad size first room next none = record {
+  bytes_bad size first space next none = record {
     field = TextBytes format documents texts size;
     behind = drop 4 rest;
-    reached = (first, room);
+    reached = (first, space);
     place = omega (arith, place, length-append (front_bytes format documents ++ flat_map text_bytes texts) (to_be_bytes w32 size));
     same = is ∙ ap (λ xs. (front_bytes format documents ++ flat_map text_bytes texts) ++ xs) next
         ∙ sym (append_assoc (front_bytes format documents ++ flat_map text_bytes texts) (to_be_bytes w32 size) (drop 4 rest));

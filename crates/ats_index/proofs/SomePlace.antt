@@ -47,9 +47,9 @@ number_4 : (bytes : List ℕ) → length bytes ≡ 4 → ((i : ℕ) → get_or b
 number_4 bytes long small = be_bytes_4 bytes (big_number 4 bytes) long small (omega arith)
 
 number_stands : (bytes : List ℕ) → 4 ≤ length bytes → ((i : ℕ) → get_or bytes i 0 < 256) → bytes ≡ to_be_bytes w32 (big_number 4 bytes) ++ drop 4 bytes
-number_stands (a ∷ b ∷ c ∷ d ∷ rest) room small =
+number_stands (a ∷ b ∷ c ∷ d ∷ rest) space small =
     ap (λ xs. xs ++ rest) (sym (number_4 (a ∷ b ∷ c ∷ d ∷ []) refl (small_four a b c d (small 0) (small 1) (small 2) (small 3))))
-number_stands bytes room small = absurd (omega arith)
+number_stands bytes space small = absurd (omega arith)
 
 -- the bytes begin with a number of this range
 record Stands (bytes : List ℕ) (low high : ℕ) : Type 0 where
@@ -66,12 +66,12 @@ module _ (bytes : List ℕ) (low high : ℕ) (all : AreBytes bytes) (small : hig
   read n more most same = ap (big_number 4) same ∙ big_number-reads_back 4 n more (omega arith)
 
   above : 4 ≤ length bytes → low ≤ big_number 4 bytes → (big_number 4 bytes ≤ high) ⊎ (high < big_number 4 bytes) → Stands bytes low high ⊎ NoneStands bytes low high
-  above room least (inl most) = inl (record { n = big_number 4 bytes; least = least; most = most; same = number_stands bytes room (byte_at bytes all) })
-  above room least (inr more) = inr (λ n behind low_n n_high same. omega (arith, read n behind n_high same))
+  above space least (inl most) = inl (record { n = big_number 4 bytes; least = least; most = most; same = number_stands bytes space (byte_at bytes all) })
+  above space least (inr more) = inr (λ n behind low_n n_high same. omega (arith, read n behind n_high same))
 
   within : 4 ≤ length bytes → (big_number 4 bytes < low) ⊎ (low ≤ big_number 4 bytes) → Stands bytes low high ⊎ NoneStands bytes low high
-  within room (inl less) = inr (λ n behind low_n n_high same. omega (arith, read n behind n_high same))
-  within room (inr least) = above room least (other (cases_lt high (big_number 4 bytes)))
+  within space (inl less) = inr (λ n behind low_n n_high same. omega (arith, read n behind n_high same))
+  within space (inr least) = above space least (other (cases_lt high (big_number 4 bytes)))
     where
       other : (high < big_number 4 bytes) ⊎ (big_number 4 bytes ≤ high) → (big_number 4 bytes ≤ high) ⊎ (high < big_number 4 bytes)
       other (inl is) = inr is
@@ -79,7 +79,7 @@ module _ (bytes : List ℕ) (low high : ℕ) (all : AreBytes bytes) (small : hig
 
   there : (length bytes < 4) ⊎ (4 ≤ length bytes) → Stands bytes low high ⊎ NoneStands bytes low high
   there (inl short) = inr (λ n behind low_n n_high same. omega (arith, ap (λ (xs : List ℕ). length xs) same))
-  there (inr room) = within room (cases_lt (big_number 4 bytes) low)
+  there (inr space) = within space (cases_lt (big_number 4 bytes) low)
 
   number_or_none : Stands bytes low high ⊎ NoneStands bytes low high
   number_or_none = there (cases_lt (length bytes) 4)
@@ -113,7 +113,7 @@ NoText bytes size = (text more : List ℕ) → length text ≡ size → IsUtf8 t
 
 module _ (bytes : List ℕ) (size : ℕ) where
   text_by : size ≤ length bytes → (valid : Bool) → is_utf8 (take size bytes) ≡ valid → TextStands bytes size ⊎ NoText bytes size
-  text_by room true test =
+  text_by space true test =
       inl (record {
         text = take size bytes;
         behind = drop size bytes;
@@ -121,14 +121,14 @@ module _ (bytes : List ℕ) (size : ℕ) where
         utf8 = IsUtf8-from_is_utf8 (take size bytes) test;
         same = sym (take-append-drop size bytes);
       })
-  text_by room false test =
+  text_by space false test =
       inr (λ text more long utf8 same.
       let taken : take size bytes ≡ text = ap (λ n. take n bytes) (sym long) ∙ ap (take (length text)) same ∙ take-append_seam text more in
       let clash : true ≡ false = sym (is_utf8-from_IsUtf8 text utf8) ∙ ap is_utf8 (sym taken) ∙ test in cc)
 
   text_there : (length bytes < size) ⊎ (size ≤ length bytes) → TextStands bytes size ⊎ NoText bytes size
   text_there (inl short) = inr (λ text more long utf8 same. omega (arith, ap (λ (xs : List ℕ). length xs) same, length-append text more))
-  text_there (inr room) = text_by room (is_utf8 (take size bytes)) refl
+  text_there (inr space) = text_by space (is_utf8 (take size bytes)) refl
 
   text_or_none : TextStands bytes size ⊎ NoText bytes size
   text_or_none = text_there (cases_lt (length bytes) size)
@@ -181,44 +181,44 @@ module _ (H : List ℕ → List ℕ) (bytes : List ℕ) (format : Format) (k doc
 
   read_more : (size : ℕ) → HasSpaceFor texts size → rest ≡ to_be_bytes w32 size ++ drop 4 rest → (found : TextStands (drop 4 rest) size)
       → AreRead bytes format documents (texts ++ found.text ∷ []) found.behind
-  read_more size room number found =
+  read_more size space number found =
       let Length : List ℕ → ℕ = λ (t : List ℕ). length t in
       let passed : drop (length found.text) (drop 4 rest) ≡ found.behind = ap (drop (length found.text)) found.same ∙ drop-append_seam found.text found.behind in
       record {
         some = so_far.some;
         few = so_far.few;
         utf8 = All-push IsUtf8 texts found.text so_far.utf8 found.utf8;
-        short = All-push (λ (t : List ℕ). length t ≤ 2 ^ 20) texts found.text so_far.short (omega (arith, found.long, room.short));
-        small = omega (arith, room.small, found.long, sum_by-append Length texts (found.text ∷ []), sum_by-cons Length found.text []);
+        short = All-push (λ (t : List ℕ). length t ≤ 2 ^ 20) texts found.text so_far.short (omega (arith, found.long, space.short));
+        small = omega (arith, space.small, found.long, sum_by-append Length texts (found.text ∷ []), sum_by-cons Length found.text []);
         left = subst AreBytes passed (All-drop (λ (n : ℕ). n < 256) (length found.text) (drop 4 rest) (All-drop (λ (n : ℕ). n < 256) 4 rest so_far.left));
         same = text_read bytes format documents texts rest so_far.same size found.text found.behind found.long number found.same;
       }
 
   text_next : (size : ℕ) → HasSpaceFor texts size → rest ≡ to_be_bytes w32 size ++ drop 4 rest → TextStands (drop 4 rest) size ⊎ NoText (drop 4 rest) size → IsIndexOrFault H bytes
-  text_next size room number (inl found) =
-      next (texts ++ found.text ∷ []) found.behind (omega (arith, count, length-append texts (found.text ∷ []))) (read_more size room number found)
-  text_next size room number (inr none) = bad_at H bytes (length bytes - length rest + 4) (bytes_bad bytes format documents texts rest so_far.same size first room number none)
+  text_next size space number (inl found) =
+      next (texts ++ found.text ∷ []) found.behind (omega (arith, count, length-append texts (found.text ∷ []))) (read_more size space number found)
+  text_next size space number (inr none) = bad_at H bytes (length bytes - length rest + 4) (bytes_bad bytes format documents texts rest so_far.same size first space number none)
 
   most : ℕ
   most = min (2 ^ 20) (2 ^ 24 - sum_by length texts)
 
-  most_room : (size : ℕ) → size ≤ most → HasSpaceFor texts size
+  most_space : (size : ℕ) → size ≤ most → HasSpaceFor texts size
   unfolding most
-  most_room size within = record { short = omega (arith, within); small = omega (arith, within, so_far.small) }
+  most_space size within = record { short = omega (arith, within); small = omega (arith, within, so_far.small) }
 
-  room_most : (size : ℕ) → HasSpaceFor texts size → size ≤ most
+  space_most : (size : ℕ) → HasSpaceFor texts size → size ≤ most
   unfolding most
-  room_most size room = omega (arith, room.short, room.small)
+  space_most size space = omega (arith, space.short, space.small)
 
   most_small : most < 2 ^ 32
   unfolding most
   most_small = omega arith
 
   length_next : Stands rest 0 most ⊎ NoneStands rest 0 most → IsIndexOrFault H bytes
-  length_next (inl found) = text_next found.n (most_room found.n found.most) found.same (text_or_none (drop 4 rest) found.n)
+  length_next (inl found) = text_next found.n (most_space found.n found.most) found.same (text_or_none (drop 4 rest) found.n)
   length_next (inr none) =
       bad_at H bytes (length bytes - length rest) (length_bad bytes format documents texts rest so_far.same first
-      (λ size more room. none size more (omega arith) (room_most size room)))
+      (λ size more space. none size more (omega arith) (space_most size space)))
 
   one_next : IsIndexOrFault H bytes
   one_next = length_next (number_or_none rest 0 most so_far.left most_small)

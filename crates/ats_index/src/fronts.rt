@@ -24,7 +24,7 @@ pub(crate) fn list_has_shown<H: HashKind, S: ShownTree>(
     requires few { length entries.now ≤ 65536 }
     requires kept { digests.now ≡ kept_list H.hash (format_of digests.now) entries.now }
     requires short { All (λ s. length s.1 ≤ 127) (S.shown shown.old) }
-    requires room { steps.old ≤ 2 ^ 63 }
+    requires space { steps.old ≤ 2 ^ 63 }
     ensures { IsTrue result ↔ IsOwnListShown H.hash (format_of digests.now) entries.now n
         (S.shown shown.old) (S.digests shown.old) }
 {
@@ -48,7 +48,7 @@ fn chain_has_shown<H: HashKind, S: ShownTree>(
     requires few { length entries.now ≤ 65536 }
     requires kept { chain.now ≡ kept_chain H.hash (map leaf_bytes entries.now) }
     requires short { All (λ s. length s.1 ≤ 127) (S.shown shown.old) }
-    requires room { steps.old ≤ 2 ^ 63 }
+    requires space { steps.old ≤ 2 ^ 63 }
     ensures { IsTrue result ↔ IsOwnFront H.hash Two entries.now n (S.shown shown.old) (S.digests shown.old) }
 {
     if entries.len() as u32 != n {
@@ -64,7 +64,7 @@ fn chain_has_shown<H: HashKind, S: ShownTree>(
 fn first_shown<S: ShownTree>(entries: &[Entry], shown: &mut S, steps: &mut Steps) -> Option<u32>
     requires few { length entries.now ≤ 65536 }
     requires short { All (λ s. length s.1 ≤ 127) (S.shown shown.old) }
-    requires room { steps.old ≤ 2 ^ 63 }
+    requires space { steps.old ≤ 2 ^ 63 }
     ensures count { IfSome result (λ k. k ≡ length (S.shown shown.old)) }
     ensures within { IfSome result (λ k. k ≤ length entries.now) }
     ensures first { IfSome result (λ k. S.shown shown.old ≡ first_leaves entries.now k) }

@@ -29,7 +29,7 @@ use crate::documents::{DocumentParts, counted};
 use crate::header::{header_of, root_of_texts};
 use crate::memory::OutOfMemory;
 use crate::parallel::{parts_and_texts, upper_trees};
-use crate::write::{put_lists, put_texts, room_of};
+use crate::write::{index_size, put_lists, put_texts};
 use ats_base::Bytes;
 use ats_commit::root_of_header_in;
 use ats_dict::{Dictionary, Header};
@@ -219,7 +219,7 @@ impl<H: HashKind> Index<H> {
     pub fn bytes(&self) -> Result<Bytes, OutOfMemory>
         ensures { IfOk result (λ bytes. IsSpelling H.hash bytes self.now) }
     {
-        let mut bytes = Bytes::with_room(self.alloc, room_of(&self.collection, &self.lists))?;
+        let mut bytes = Bytes::with_room(self.alloc, index_size(&self.collection, &self.lists))?;
         self.put(&mut bytes)?;
         Ok(bytes)
     }

@@ -104,8 +104,8 @@ pub(crate) fn read_texts(
     let mut all: u32 = 0;
     for _document in 0..documents {
         let at = (bytes.len() - rest.len()) as u64;
-        let room = MAX_TEXT.min(MAX_ALL - all);
-        let Some(size) = number(rest, 0, room) else {
+        let most = MAX_TEXT.min(MAX_ALL - all);
+        let Some(size) = number(rest, 0, most) else {
             return Ok(Err(at));
         };
         let Some((text, behind)) = text_of(&rest[4..], size as usize) else {

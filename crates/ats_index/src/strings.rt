@@ -99,7 +99,7 @@ impl<H: Hash32> Index<H> {
         steps: &mut Steps,
     ) -> bool
         requires short { All (λ s. length s.1 ≤ 127) (S.shown shown.old) }
-        requires room { steps.old ≤ 2 ^ 63 }
+        requires space { steps.old ≤ 2 ^ 63 }
         ensures { IsTrue result ↔ IsOwnListShown H.hash self.now.format (list self.now.texts term.now) n
             (S.shown shown.old) (S.digests shown.old) }
     {
@@ -113,7 +113,7 @@ impl<H: Hash32> Index<H> {
     // Whether what is shown is of the tree of all documents.
     fn has_documents<S: ShownTree>(&self, n: u32, shown: &mut S, steps: &mut Steps) -> bool
         requires short { All (λ s. length s.1 ≤ 127) (S.shown shown.old) }
-        requires room { steps.old ≤ 2 ^ 63 }
+        requires space { steps.old ≤ 2 ^ 63 }
         ensures { IsTrue result ↔ IsOwnShown H.hash (documents_of H.hash self.now.texts) n
             (S.shown shown.old) (S.digests shown.old) }
     {
@@ -127,7 +127,7 @@ impl<H: Hash32> Index<H> {
     // Whether what is shown is of the tree of a document's terms.
     fn has_terms<S: ShownTree>(&self, doc: u32, n: u32, shown: &mut S, steps: &mut Steps) -> bool
         requires short { All (λ s. length s.1 ≤ 127) (S.shown shown.old) }
-        requires room { steps.old ≤ 2 ^ 63 }
+        requires space { steps.old ≤ 2 ^ 63 }
         ensures { IsTrue result ↔ IsOwnShown H.hash (own_leaves H.hash self.now [] (TermsTree doc)) n
             (S.shown shown.old) (S.digests shown.old) }
     {

@@ -117,19 +117,19 @@ const LIST_LENGTH_BYTES: usize = 5;
 const ENTRY_BYTES: usize = 6;
 
 /// How many bytes the index of these has, so that room for them is allocated at once.
-pub(crate) fn room_of(collection: &Collection, lists: &Lists) -> usize {
-    let mut room = FRONT_BYTES + LISTS_AND_ROOT_BYTES;
+pub(crate) fn index_size(collection: &Collection, lists: &Lists) -> usize {
+    let mut size = FRONT_BYTES + LISTS_AND_ROOT_BYTES;
     for doc in 0..collection.documents() {
-        room = room
+        size = size
             .saturating_add(TEXT_LENGTH_BYTES)
             .saturating_add(collection.text(doc).len());
     }
     for i in 0..lists.len() {
         let entries = lists.list(i).len().saturating_mul(ENTRY_BYTES);
-        room = room
+        size = size
             .saturating_add(LIST_LENGTH_BYTES)
             .saturating_add(lists.term(i).len())
             .saturating_add(entries);
     }
-    room
+    size
 }

@@ -66,7 +66,7 @@ pub fn chain_first_clash<'a, H: Hash32, R: Revealed<'a>, O: OwnList>(
     requires few { k ≤ 65536 }
     requires front { positions_of (R.shown revealed.old) ≡ range_with_len 0 k }
     requires short { All (λ s. length s.1 ≤ 127) (R.shown revealed.old) }
-    requires room { steps.old ≤ 2 ^ 63 }
+    requires space { steps.old ≤ 2 ^ 63 }
     ensures clash { option_map list_difference_of result ≡ first_collision H.hash (O.ours own.now)
         (chain_strings H.hash f (R.shown revealed.old) (R.digests revealed.old)) }
     ensures cost { steps.new ≤ steps.old + 5 * f }
@@ -99,7 +99,7 @@ fn search_trees<'a, H: Hash32, R: Revealed<'a>, O: OwnList>(
     requires few { length (R.shown revealed.old) ≤ 65536 }
     requires enough { block_need f (R.shown revealed.old) ≤ length (R.digests revealed.old) }
     requires short { All (λ s. length s.1 ≤ 127) (R.shown revealed.old) }
-    requires room { steps.old + 5 * f < 2 ^ 64 }
+    requires space { steps.old + 5 * f < 2 ^ 64 }
     ensures whole { AreBlockRoots H.hash f (R.shown revealed.old) (R.digests revealed.old) roots.new
         (R.shown revealed.new) (R.digests revealed.new) }
     ensures first { IsFirstInTrees H.hash (O.ours own.now) f (R.shown revealed.old) (R.digests revealed.old)
@@ -140,7 +140,7 @@ fn search_tree<'a, H: Hash32, R: Revealed<'a>, O: OwnList>(
     requires rising { RisesFrom (64 * block) (R.shown revealed.old) }
     requires enough { need (tree_of (places (64 * block) n (R.shown revealed.old))) ≤ length (R.digests revealed.old) }
     requires short { All (λ s. length s.1 ≤ 127) (R.shown revealed.old) }
-    requires room { steps.old + 5 * n < 2 ^ 64 }
+    requires space { steps.old + 5 * n < 2 ^ 64 }
     ensures whole { IsPart H.hash (64 * block) n (R.shown revealed.old) (R.digests revealed.old)
         result.digest (R.shown revealed.new) (R.digests revealed.new) }
     ensures clash { option_map list_difference_of result.clash ≡ first_collision H.hash (O.ours own.now)
@@ -181,7 +181,7 @@ fn search_links<H: Hash32, O: OwnList>(
     steps: &mut Steps,
 ) -> Option<Clash<HashedString>>
     requires few { length roots.now ≤ 1024 }
-    requires room { steps.old + 2 * length roots.now < 2 ^ 64 }
+    requires space { steps.old + 2 * length roots.now < 2 ^ 64 }
     ensures clash { option_map list_difference_of result ≡ option_or (first_collision H.hash (O.ours own.now)
         (map (link_at H.hash roots.now next) (range_with_len 0 (min (length roots.now) (first.block + 1)))))
         (option_map list_difference_of first.clash) }
@@ -211,7 +211,7 @@ fn link_clash_or<H: Hash32, O: OwnList>(
     steps: &mut Steps,
 ) -> Option<Clash<HashedString>>
     requires digest { digest.now ≡ H.hash theirs }
-    requires room { steps.old + 1 < 2 ^ 64 }
+    requires space { steps.old + 1 < 2 ^ 64 }
     ensures clash { option_map list_difference_of result
         ≡ collision_or H.hash (O.ours own.now (record { depth = 0; turns = turns }))
         (record { place = record { depth = 0; turns = turns }; text = theirs }) (option_map list_difference_of later) }

@@ -52,7 +52,7 @@ impl Chain {
     ) -> Result<Chain, OutOfMemory>
         requires some { 1 ≤ length entries.now }
         requires few { length entries.now ≤ 65536 }
-        requires room { steps.old ≤ 2 ^ 63 }
+        requires space { steps.old ≤ 2 ^ 63 }
         ensures value { IfOk result (λ chain. chain ≡ kept_chain H.hash (map leaf_bytes entries.now)) }
         ensures cost { steps.new ≤ steps.old + 2 * length entries.now }
     {
@@ -103,7 +103,7 @@ impl Chain {
         requires some { 1 ≤ k }
         requires within { k ≤ self.now.entries }
         requires theirs { All (λ d. length d ≡ 32) (S.digests shown.old) }
-        requires room { steps.old + 256 < 2 ^ 64 }
+        requires space { steps.old + 256 < 2 ^ 64 }
         ensures { (H : List ℕ → List ℕ) (leaves : List (List ℕ)) → self.now ≡ kept_chain H leaves
             → IsTrue result ↔ S.digests shown.old ≡ chain_elided H leaves k }
     {
@@ -223,7 +223,7 @@ impl Chain {
         requires inside { j < blocks_in self.now.entries }
         requires within { count ≤ items_in self.now.entries j }
         requires theirs { All (λ d. length d ≡ 32) (S.digests shown.old) }
-        requires room { steps.old + 128 < 2 ^ 64 }
+        requires space { steps.old + 128 < 2 ^ 64 }
         ensures exact { (H : List ℕ → List ℕ) (leaves : List (List ℕ)) → self.now ≡ kept_chain H leaves
             → IsTrue result ↔ take (length (elided_digests H (block leaves j) (range_with_len 0 count))) (S.digests shown.old)
             ≡ elided_digests H (block leaves j) (range_with_len 0 count) }
@@ -241,7 +241,7 @@ impl Chain {
     fn is_link<S: ShownTree>(&self, j: u32, shown: &mut S, steps: &mut Steps) -> bool
         requires inside { j ≤ blocks_in self.now.entries }
         requires theirs { All (λ d. length d ≡ 32) (S.digests shown.old) }
-        requires room { steps.old + 2 < 2 ^ 64 }
+        requires space { steps.old + 2 < 2 ^ 64 }
         ensures { (H : List ℕ → List ℕ) (leaves : List (List ℕ)) → self.now ≡ kept_chain H leaves
             → IsTrue result
             ↔ S.digests shown.old ≡ (if nat_lt (64 * j) (length leaves) then chain_from H leaves j ∷ [] else []) }
@@ -286,7 +286,7 @@ fn first_positions() -> [u32; 64]
 fn keep_blocks<H: Hash32, L: Leaves>(leaves: &L, digests: &mut [[u8; 32]], steps: &mut Steps)
     requires few { length (L.items leaves.now) ≤ 65536 }
     requires size { length digests.old ≡ 2 * length (L.items leaves.now) }
-    requires room { steps.old ≤ 2 ^ 63 }
+    requires space { steps.old ≤ 2 ^ 63 }
     ensures kept { (j : ℕ) → j < blocks_in (length (L.items leaves.now))
         → digests_in digests.new j ≡ chain_from H.hash (L.items leaves.now) j ∷ kept_digests H.hash (block (L.items leaves.now) j) }
     ensures cost { steps.new ≡ steps.old + 2 * length (L.items leaves.now) }
@@ -315,7 +315,7 @@ fn keep_block<H: Hash32, L: Leaves>(
     requires within { start + n ≤ length (L.items leaves.now) }
     requires ends { start + n < 2 ^ 32 }
     requires size { length digests.old ≡ 2 * n }
-    requires room { steps.old + 2 * n < 2 ^ 64 }
+    requires space { steps.old + 2 * n < 2 ^ 64 }
     ensures kept { digests.new ≡ result ∷ kept_digests H.hash (take n (drop start (L.items leaves.now))) }
     ensures own { result ≡ H.hash (link (mth H.hash (take n (drop start (L.items leaves.now)))) next.now) }
     ensures cost { steps.new ≡ steps.old + 2 * n }

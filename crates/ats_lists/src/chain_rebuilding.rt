@@ -31,7 +31,7 @@ pub fn chain_rebuild<'a, H: Hash32, R: Revealed<'a>>(
     requires some { 1 ≤ k }
     requires few { k ≤ 65536 }
     requires front { positions_of (R.shown revealed.old) ≡ range_with_len 0 k }
-    requires room { steps.old ≤ 2 ^ 63 }
+    requires space { steps.old ≤ 2 ^ 63 }
     ensures value { result ≡ chain_rebuilt H.hash f (R.shown revealed.old) (R.digests revealed.old) }
     ensures used { IfSome result (λ x. (R.shown revealed.new ≡ []) × (R.digests revealed.new ≡ [])) }
     // Nothing is assumed of the hash function.
@@ -70,7 +70,7 @@ fn rebuild_front<'a, H: Hash32, R: Revealed<'a>>(
     requires front { positions_of (R.shown revealed.old) ≡ range_with_len 0 (length (R.shown revealed.old)) }
     requires within { length (R.shown revealed.old) ≤ f }
     requires size { length roots.old ≡ blocks_in (length (R.shown revealed.old)) }
-    requires room { steps.old ≤ 2 ^ 63 }
+    requires space { steps.old ≤ 2 ^ 63 }
     ensures value { result ≡ chain_rebuilt H.hash f (R.shown revealed.old) (R.digests revealed.old) }
     ensures used { IfSome result (λ x. (R.shown revealed.new ≡ []) × (R.digests revealed.new ≡ [])) }
     ensures bound { IfSome result (λ x. (leaves : List (List ℕ)) → length leaves ≡ f → chain H.hash leaves ≡ x
@@ -104,7 +104,7 @@ fn rebuild_blocks<'a, H: Hash32, R: Revealed<'a>>(
     requires front { positions_of (R.shown revealed.old) ≡ range_with_len 0 (length (R.shown revealed.old)) }
     requires within { length (R.shown revealed.old) ≤ f }
     requires size { length roots.old ≡ blocks_in (length (R.shown revealed.old)) }
-    requires room { steps.old ≤ 2 ^ 63 }
+    requires space { steps.old ≤ 2 ^ 63 }
     ensures whole { IfSome result (λ x. AreBlockRoots H.hash f (R.shown revealed.old) (R.digests revealed.old) roots.new
         (R.shown revealed.new) (R.digests revealed.new)) }
     ensures short { IfNone result (length (R.digests revealed.old) < block_need f (R.shown revealed.old)) }
@@ -132,7 +132,7 @@ pub(crate) fn pass_next<'a, R: Revealed<'a>>(
     steps: &mut Steps,
 ) -> Option<[u8; 32]>
     requires sized { All (λ d. length d ≡ 32) (R.digests revealed.old) }
-    requires room { steps.old + 1 < 2 ^ 64 }
+    requires space { steps.old + 1 < 2 ^ 64 }
     ensures value { result ≡ (if follows then slice_get (R.digests revealed.old) 0 else Some no_block) }
     ensures digests { R.digests revealed.new ≡ drop (if follows then 1 else 0) (R.digests revealed.old) }
     ensures leaves { R.shown revealed.new ≡ R.shown revealed.old }
@@ -147,7 +147,7 @@ pub(crate) fn pass_next<'a, R: Revealed<'a>>(
 
 /// The digest of the first of some blocks with these roots, if `next` is the digest after the last of them.
 fn link_blocks<H: Hash32>(roots: &[[u8; 32]], next: [u8; 32], steps: &mut Steps) -> [u8; 32]
-    requires room { steps.old + length roots.now < 2 ^ 64 }
+    requires space { steps.old + length roots.now < 2 ^ 64 }
     ensures value { result ≡ chain_digest H.hash roots.now next }
     ensures cost { steps.new ≡ steps.old + length roots.now }
 {

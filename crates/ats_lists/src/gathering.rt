@@ -80,8 +80,8 @@ fn empty_lists(alloc: Global, terms: Vec<Key>, log: &[Logged]) -> Result<Vec<Ter
     }
     let mut empty_lists = Vec::with_capacity(alloc, terms.len())?;
     for term in terms {
-        let room = counts[empty_lists.len()];
-        empty_lists.push(TermList::with_room(alloc, term.into_term(), room)?)?;
+        let count = counts[empty_lists.len()];
+        empty_lists.push(TermList::with_room(alloc, term.into_term(), count)?)?;
     }
     Ok(empty_lists)
 }

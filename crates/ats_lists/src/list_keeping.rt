@@ -35,7 +35,7 @@ impl ListDigests {
     ) -> Result<ListDigests, OutOfMemory>
         requires some { 1 ≤ length entries.now }
         requires few { length entries.now ≤ 65536 }
-        requires room { steps.old ≤ 2 ^ 63 }
+        requires space { steps.old ≤ 2 ^ 63 }
         ensures value { IfOk result (λ kept. kept ≡ kept_list H.hash format entries.now) }
         ensures cost { steps.new ≤ steps.old + 2 * length entries.now }
     {

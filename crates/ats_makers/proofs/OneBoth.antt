@@ -12,7 +12,7 @@ use Rattle.ats_plan.specs.Inner.Sound.{IsExact}
 use Rattle.ats_console.specs.Stops.{line_of_long_proof}
 use Rattle.ats_console.specs.declared.stops.Stop.{Stop}
 use Rattle.ats_console.specs.declared.stops.Stop.TheVariants.{Input}
-use Rattle.ats_makers.specs.Commands.ProveBoth.{AreBothBytes, IsBothShort, IsBothUnmade}
+use Rattle.ats_makers.specs.Commands.{AreBothBytes, IsBothShort, IsBothUnmade}
 use Rattle.ats_console.proofs.Public.{spelled_fields}
 
 module _ (H : List ℕ → List ℕ) (archive : Archive) (query : List (List ℕ × ℕ)) where

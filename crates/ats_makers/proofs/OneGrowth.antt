@@ -7,7 +7,7 @@ use Rattle.ats_growth.proofs.Public.{not_prefix}
 use Rattle.ats_plan.specs.Inner.Sound.{IsExact}
 use Rattle.ats_console.specs.declared.stops.Stop.TheVariants.{Input}
 use Rattle.ats_makers.specs.Lines.{line_of_differing}
-use Rattle.ats_makers.specs.Commands.Grow.{WithdrawsNothing, Withdraws}
+use Rattle.ats_makers.specs.Commands.{WithdrawsNothing, Withdraws}
 
 -- of two first texts that were withdrawn none is before the other
 not_before : (old new : List (List ℕ)) (a b : ℕ) → IsFirstApart old new a → IsFirstApart old new b → a < b → ⊥
@@ -20,9 +20,9 @@ one_apart old new a b is also = elim (cases_order a b) [
   | inr (inr less) ↦ absurd (not_before old new b a also is less)
 ]
 
--- the old texts are kept, or one is the first that was withdrawn
+-- no old text was withdrawn, or one is the first that was withdrawn
 pub withdrawing_exact : (older newer : Archive) → IsExact (WithdrawsNothing older newer) (Withdraws older newer)
 withdrawing_exact older newer = record {
-  breaks = λ stop lacks kept. not_prefix older.texts newer.texts lacks.0 lacks.1 kept;
+  breaks = λ stop lacks prefix. not_prefix older.texts newer.texts lacks.0 lacks.1 prefix;
   one = λ a b is also. is.2 ∙ ap (λ (doc : ℕ). Input (line_of_differing doc)) (one_apart older.texts newer.texts is.0 also.0 is.1 also.1) ∙ sym also.2;
 }

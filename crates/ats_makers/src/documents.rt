@@ -4,7 +4,7 @@ ghost use Rattle.std.specs.Prelude.{◌≡◌, IfOk, IfErr};
 ghost use Rattle.ats_plan.specs.Plan.{ComesToShelf};
 ghost use Rattle.ats_plan.specs.Runs.{IsDone, IsStopped};
 ghost use Rattle.ats_console.specs.declared.stops.Stop.TheVariants.{Shelf as AtShelf, Memory};
-ghost use Rattle.ats_makers.specs.Commands.ProveBoth.{AreBothBytes, IsBothUnmade, prove_both_plan};
+ghost use Rattle.ats_makers.specs.Commands.{AreBothBytes, IsBothUnmade, prove_both_plan};
 ghost use Rattle.ats_makers.specs.Inner.Stops.{OrMemory};
 
 use crate::storing::store_sized;
@@ -33,7 +33,7 @@ fn both_to_bytes<H: Hash32>(alloc: Global, index: Index<H>, query: &Query) -> Re
 
 /// Stores the proof of all documents with every term, and returns the line of its length, which is made first. The query is
 /// read before anything else.
-pub fn prove_both<H: Hash32 + Sync, R: Threads + Sync, S: Shelf>(
+pub(crate) fn prove_both<H: Hash32 + Sync, R: Threads + Sync, S: Shelf>(
     rt: &R,
     alloc: Global,
     index: &str,

@@ -6,7 +6,7 @@ ghost use Rattle.ats_consistency.specs.Value.{IsGrowth};
 ghost use Rattle.ats_plan.specs.Runs.{IsDone, IsStopped};
 ghost use Rattle.ats_console.specs.declared.stops.Stop.TheVariants.{Shelf as AtShelf, Memory, Input};
 ghost use Rattle.ats_makers.specs.Lines.{line_of_differing};
-ghost use Rattle.ats_makers.specs.Commands.Grow.{WithdrawsNothing, Withdraws, grow_plan};
+ghost use Rattle.ats_makers.specs.Commands.{WithdrawsNothing, Withdraws, grow_plan};
 ghost use Rattle.ats_makers.specs.Inner.Stops.{OrMemory};
 
 use crate::storing::store_sized;
@@ -28,7 +28,7 @@ fn differs(doc: u32) -> Stop
 
 // The bytes that show the growth between the archives of two indexes, which are dropped.
 fn grow_to_bytes<H: Hash32>(alloc: Global, older: Index<H>, newer: Index<H>) -> Result<Bytes, Stop>
-    ensures kept { IfOk result (λ bytes. WithdrawsNothing older newer) }
+    ensures prefix { IfOk result (λ bytes. WithdrawsNothing older newer) }
     ensures file { IfOk result (λ bytes. IsGrowth bytes (honest H.hash older newer)) }
     ensures stop { IfErr result (OrMemory (Withdraws older newer)) }
 {
@@ -44,7 +44,7 @@ fn grow_to_bytes<H: Hash32>(alloc: Global, older: Index<H>, newer: Index<H>) -> 
 
 /// Stores the bytes that show that nothing was withdrawn between two archives, and returns the line of their number, which
 /// is made first. The old index is read before the new one.
-pub fn grow<H: Hash32 + Sync, R: Threads + Sync, S: Shelf>(
+pub(crate) fn grow<H: Hash32 + Sync, R: Threads + Sync, S: Shelf>(
     rt: &R,
     alloc: Global,
     old: &str,

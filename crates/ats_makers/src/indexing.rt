@@ -5,9 +5,7 @@ ghost use Rattle.ats_commit.specs.Root.{root_of};
 ghost use Rattle.ats_index.specs.Spelling.{IsSpelling};
 ghost use Rattle.ats_plan.specs.Runs.{IsDone, IsStopped};
 ghost use Rattle.ats_console.specs.Print.{IsPublished};
-ghost use Rattle.ats_makers.specs.Commands.Build.{build_plan};
-ghost use Rattle.ats_makers.specs.Commands.Migrate.{migrate_plan, in_blocks};
-ghost use Rattle.ats_makers.specs.Commands.Root.{root_plan};
+ghost use Rattle.ats_makers.specs.Commands.{build_plan, migrate_plan, in_blocks, root_plan};
 ghost use Rattle.ats_console.specs.declared.stops.Stop.TheVariants.{Shelf as AtShelf, Memory};
 
 use crate::storing::store_made;
@@ -48,7 +46,7 @@ fn index_in_blocks<H: Hash32 + Sync, R: Threads + Sync>(
 }
 
 /// Stores the index of a collection, and returns the line of its root, which is made first.
-pub fn build<H: Hash32 + Sync, R: Threads + Sync, S: Shelf>(
+pub(crate) fn build<H: Hash32 + Sync, R: Threads + Sync, S: Shelf>(
     rt: &R,
     alloc: Global,
     collection: &str,
@@ -70,7 +68,7 @@ pub fn build<H: Hash32 + Sync, R: Threads + Sync, S: Shelf>(
 
 /// Stores the index of the same texts in which lists stand in blocks, and returns the line of its root, which is made first.
 /// Only the texts of the index are kept: lists and trees of both would need twice the memory.
-pub fn migrate<H: Hash32 + Sync, R: Threads + Sync, S: Shelf>(
+pub(crate) fn migrate<H: Hash32 + Sync, R: Threads + Sync, S: Shelf>(
     rt: &R,
     alloc: Global,
     index: &str,
@@ -91,7 +89,7 @@ pub fn migrate<H: Hash32 + Sync, R: Threads + Sync, S: Shelf>(
 }
 
 /// The line of the root of an index.
-pub fn root<H: Hash32 + Sync, R: Threads + Sync, S: Shelf>(
+pub(crate) fn root<H: Hash32 + Sync, R: Threads + Sync, S: Shelf>(
     rt: &R,
     alloc: Global,
     index: &str,

@@ -6,14 +6,22 @@
 //! query, and `grow` what shows that nothing was withdrawn between two indexes.
 //!
 //! The room stands on `ats_plan` and `ats_console` for what a command is and reads, on `ats_index`, `ats_prover`,
-//! `ats_fetch`, `ats_both` and `ats_growth` for what it makes, and on no check. Each call is a command: it comes to the
-//! text that its plan allows (`specs/Commands`), or stops as its plan stops. How a command makes its answer may change
-//! freely; the order in which its inputs are tried may not.
+//! `ats_fetch`, `ats_both` and `ats_growth` for what it makes, and on no check. [`answer`] comes to the text that the plan
+//! of a command allows (`specs/Commands`), or stops as its plan stops. How a command makes its answer may change freely; the
+//! order in which its inputs are tried may not.
 //!
 //! ```
-//! let text = rank(alloc, "X", 1, "red hen", shelf)?; // b"1 1 13014 13014\n", or why it stopped
+//! let command = MakerCommand::Rank { collection: "X", r: 1, query: "red hen" };
+//! let text = answer::<Sha, _, _>(rt, alloc, command, shelf)?; // b"1 1 13014 13014\n", or why it stopped
 //! ```
 #![tactic(auto)]
+
+ghost use Rattle.std.specs.Prelude.{◌≡◌, IfOk, IfErr};
+ghost use Rattle.ats_plan.specs.Plan.{ComesToShelf};
+ghost use Rattle.ats_plan.specs.Runs.{IsDone, IsStopped};
+ghost use Rattle.ats_console.specs.Words.{maker_meaning};
+ghost use Rattle.ats_console.specs.declared.stops.Stop.TheVariants.{Shelf as AtShelf, Memory};
+ghost use Rattle.ats_makers.specs.Commands.{maker_plan};
 
 mod documents;
 mod growths;
@@ -23,9 +31,60 @@ mod ranking;
 mod storing;
 mod texts;
 
-pub use documents::prove_both;
-pub use growths::grow;
-pub use indexing::{build, migrate, root};
-pub use proving::prove;
-pub use ranking::rank;
-pub use texts::give;
+use ats_base::Shelf;
+use ats_console::{MakerCommand, Stop};
+use ats_hash::Hash32;
+use documents::prove_both;
+use growths::grow;
+use indexing::{build, migrate, root};
+use proving::prove;
+use ranking::rank;
+use std::alloc::Global;
+use std::thread::Threads;
+use texts::give;
+
+/// The text of a command that ranks, indexes or makes, or why it stopped. Nothing is printed.
+pub fn answer<H: Hash32 + Sync, R: Threads + Sync, S: Shelf>(
+    rt: &R,
+    alloc: Global,
+    command: MakerCommand,
+    shelf: &mut S,
+) -> Result<Vec<u8>, Stop>
+    ensures ok { IfOk result (λ text. IsDone (maker_plan H.hash (maker_meaning command.entry))
+        (S.told shelf.old) (S.told shelf.new) text.items) }
+    ensures stop { IfErr result (IsStopped AtShelf Memory (maker_plan H.hash (maker_meaning command.entry))
+        (S.told shelf.old) (S.told shelf.new)) }
+    ensures unread { (ComesToShelf (maker_plan H.hash (maker_meaning command.entry)) → ⊥)
+        → shelf.new ≡ shelf.old }
+{
+    match command {
+        MakerCommand::Rank {
+            collection,
+            r,
+            query,
+        } => rank(alloc, collection, r, query, shelf),
+        MakerCommand::Build { collection, index } => build::<H, R, S>(
+            rt, alloc, collection, index, shelf,
+        ),
+        MakerCommand::Migrate { index, migrated } => migrate::<H, R, S>(
+            rt, alloc, index, migrated, shelf,
+        ),
+        MakerCommand::Root { index } => root::<H, R, S>(rt, alloc, index, shelf),
+        MakerCommand::Prove {
+            index,
+            algorithm,
+            r,
+            query,
+            proof,
+        } => prove::<H, R, S>(rt, alloc, index, algorithm, r, query, proof, shelf),
+        MakerCommand::Give { index, doc, file } => give::<H, R, S>(
+            rt, alloc, index, doc, file, shelf,
+        ),
+        MakerCommand::ProveBoth {
+            index,
+            query,
+            proof,
+        } => prove_both::<H, R, S>(rt, alloc, index, query, proof, shelf),
+        MakerCommand::Grow { old, new, file } => grow::<H, R, S>(rt, alloc, old, new, file, shelf),
+    }
+}

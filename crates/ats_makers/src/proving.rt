@@ -5,7 +5,7 @@ ghost use Rattle.ats_plan.specs.Plan.{ComesToShelf};
 ghost use Rattle.ats_plan.specs.Runs.{IsDone, IsStopped};
 ghost use Rattle.ats_console.specs.Making.{IsMade};
 ghost use Rattle.ats_console.specs.Inner.Making.{MakingStop};
-ghost use Rattle.ats_makers.specs.Commands.Prove.{prove_plan};
+ghost use Rattle.ats_makers.specs.Commands.{prove_plan};
 ghost use Rattle.ats_console.specs.declared.stops.Stop.TheVariants.{Shelf as AtShelf, Memory};
 
 use crate::storing::store_sized;
@@ -42,7 +42,7 @@ fn prove_to_bytes<H: Hash32>(
 
 /// Stores the honest proof, and returns the line of its length, which is made first. The words are checked before
 /// anything is read.
-pub fn prove<H: Hash32 + Sync, R: Threads + Sync, S: Shelf>(
+pub(crate) fn prove<H: Hash32 + Sync, R: Threads + Sync, S: Shelf>(
     rt: &R,
     alloc: Global,
     index: &str,

@@ -3,7 +3,7 @@
 ghost use Rattle.std.specs.Prelude.{◌≡◌, IfOk, IfErr};
 ghost use Rattle.ats_plan.specs.Plan.{ComesToShelf};
 ghost use Rattle.ats_plan.specs.Runs.{IsDone, IsStopped};
-ghost use Rattle.ats_makers.specs.Commands.Rank.{rank_plan};
+ghost use Rattle.ats_makers.specs.Commands.{rank_plan};
 ghost use Rattle.ats_console.specs.declared.stops.Stop.TheVariants.{Shelf as AtShelf, Memory};
 
 use ats_base::Shelf;
@@ -13,7 +13,7 @@ use ats_terms::Query;
 use std::alloc::Global;
 
 /// The lines of `rank`. The words are checked before anything is read.
-pub fn rank<S: Shelf>(
+pub(crate) fn rank<S: Shelf>(
     alloc: Global,
     collection: &str,
     r: u32,

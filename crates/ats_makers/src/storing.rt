@@ -11,7 +11,7 @@ use ats_console::Stop;
 use std::alloc::Global;
 
 /// Stores the bytes, and returns their line, which is made before.
-pub fn store_made<S: Shelf>(
+pub(crate) fn store_made<S: Shelf>(
     name: &str,
     bytes: Bytes,
     line: Vec<u8>,
@@ -29,7 +29,7 @@ pub fn store_made<S: Shelf>(
 }
 
 /// Stores the bytes, and returns the line of their number, after what they are.
-pub fn store_sized<S: Shelf>(
+pub(crate) fn store_sized<S: Shelf>(
     alloc: Global,
     kind: &str,
     name: &str,

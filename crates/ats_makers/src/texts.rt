@@ -6,7 +6,7 @@ ghost use Rattle.ats_inclusion.specs.Value.{IsTextProof};
 ghost use Rattle.ats_plan.specs.Runs.{IsDone, IsStopped};
 ghost use Rattle.ats_console.specs.declared.stops.Stop.TheVariants.{Shelf as AtShelf, Memory, Input};
 ghost use Rattle.ats_makers.specs.Lines.{line_of_document};
-ghost use Rattle.ats_makers.specs.Commands.Give.{HasDocument, LacksDocument, give_plan};
+ghost use Rattle.ats_makers.specs.Commands.{HasDocument, LacksDocument, give_plan};
 ghost use Rattle.ats_makers.specs.Inner.Stops.{OrMemory};
 
 use crate::storing::store_sized;
@@ -45,7 +45,7 @@ fn give_to_bytes<H: Hash32>(alloc: Global, index: Index<H>, doc: u32) -> Result<
 }
 
 /// Stores the bytes that give the text of a document, and returns the line of their number, which is made first.
-pub fn give<H: Hash32 + Sync, R: Threads + Sync, S: Shelf>(
+pub(crate) fn give<H: Hash32 + Sync, R: Threads + Sync, S: Shelf>(
     rt: &R,
     alloc: Global,
     index: &str,

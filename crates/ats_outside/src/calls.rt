@@ -35,12 +35,12 @@ pub trait Files {
     /// Opens the named file to be read.
     fn open(&mut self, name: &str) -> io::Result<Self::File>
         ensures bytes { IfOk result (λ file. HasBytesOf (content self.old) name.now (told file)) }
-        ensures kept { content self.new ≡ content self.old };
+        ensures files { content self.new ≡ content self.old };
 
     /// The next read of the file begins at this place.
     fn seek(&mut self, file: &mut Self::File, place: u64) -> io::Result<()>
         ensures place { OnOk result (told file.new ≡ at_place place (told file.old)) }
-        ensures kept { content self.new ≡ content self.old };
+        ensures files { content self.new ≡ content self.old };
 
     /// Puts the next bytes of the file at the front of `buf`, and returns how many. 0 for a `buf` with room means that
     /// the file has ended.
@@ -48,7 +48,7 @@ pub trait Files {
         ensures within { IfOk result (λ n. n ≤ length buf.new) }
         ensures bytes { IfOk result (λ n. ReadsOpen (told file.old) n buf.new) }
         ensures same { OnOk result (KeepsBytes (told file.old) (told file.new)) }
-        ensures kept { content self.new ≡ content self.old };
+        ensures files { content self.new ≡ content self.old };
 
     /// The name to be kept, or `None` if memory runs out.
     fn keep(&self, name: &str) -> Option<String>

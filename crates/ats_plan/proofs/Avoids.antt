@@ -13,8 +13,8 @@ module _ {F : Type 0} (stop shelf : F) (other : stop ≢ shelf) where
   refused_otherwise files (Finishes says) avoids refused = refused
   refused_otherwise files (Stores name bytes says) avoids refused = refused
   refused_otherwise files (Fails fault) avoids refused = avoids refused
-  refused_otherwise files (Tries kept fault rest) avoids (inl here) = avoids.0 here
-  refused_otherwise files (Tries kept fault rest) avoids (inr (is, later)) = refused_otherwise files rest avoids.1 later
+  refused_otherwise files (Tries holds fault rest) avoids (inl here) = avoids.0 here
+  refused_otherwise files (Tries holds fault rest) avoids (inr (is, later)) = refused_otherwise files rest avoids.1 later
   refused_otherwise files (Gets A is fault rest) avoids (inl here) = avoids.0 here
   refused_otherwise files (Gets A is fault rest) avoids (inr (a, holds, later)) = refused_otherwise files (rest a) (avoids.1 a) later
   refused_otherwise files (Makes A is rest) avoids (a, holds, later) = refused_otherwise files (rest a) (avoids a) later

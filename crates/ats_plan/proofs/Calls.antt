@@ -16,7 +16,7 @@ module _ {F : Type 0} (stores : List ℕ → List Ask → Type 0) where
   asks_nothing files (Finishes says) = refl
   asks_nothing files (Stores name bytes says) = inl refl
   asks_nothing files (Fails fault) = refl
-  asks_nothing files (Tries kept fault rest) = inl refl
+  asks_nothing files (Tries holds fault rest) = inl refl
   asks_nothing files (Gets A is fault rest) = inl refl
   asks_nothing files (Makes A is rest) = inl refl
   asks_nothing files (Reads name limit long rest) = ([], [], refl, tt, inl refl)
@@ -25,10 +25,10 @@ module _ {F : Type 0} (stores : List ℕ → List Ask → Type 0) where
   asked_nothing plan before now same = asked_same before now (AsksFor stores before.files plan) same (asks_nothing before.files plan)
 
   -- the calls after a step that holds
-  asked_try : (kept : Type 0) (fault : F → Type 0) (rest : Plan F) (before now : ShelfTold) → kept → Asked before.asked now.asked (AsksFor stores before.files rest)
-      → Asked before.asked now.asked (AsksFor stores before.files (Tries kept fault rest))
-  asked_try kept fault rest before now is asked =
-      asked_as before.asked now.asked (AsksFor stores before.files rest) (AsksFor stores before.files (Tries kept fault rest)) asked (λ asks right. inr (is, right))
+  asked_try : (holds : Type 0) (fault : F → Type 0) (rest : Plan F) (before now : ShelfTold) → holds → Asked before.asked now.asked (AsksFor stores before.files rest)
+      → Asked before.asked now.asked (AsksFor stores before.files (Tries holds fault rest))
+  asked_try holds fault rest before now is asked =
+      asked_as before.asked now.asked (AsksFor stores before.files rest) (AsksFor stores before.files (Tries holds fault rest)) asked (λ asks right. inr (is, right))
 
   asked_make : (A : Type 0) (is : A → Type 0) (rest : A → Plan F) (before now : ShelfTold) (a : A) → is a
       → Asked before.asked now.asked (AsksFor stores before.files (rest a)) → Asked before.asked now.asked (AsksFor stores before.files (Makes A is rest))
@@ -59,7 +59,7 @@ does_asked {F} (Finishes says) before now text (same, holds) = asked_nothing {F 
 does_asked {F} (Stores name bytes says) before now text (asked, counts, puts, holds) =
     asked_as before.asked now.asked (StoresOnce name) (AsksFor {F = F} StoresOnce before.files (Stores name bytes says)) asked (λ asks right. inr right)
 does_asked (Fails fault) before now text done = absurd done
-does_asked (Tries kept fault rest) before now text (is, done) = asked_try StoresOnce kept fault rest before now is (does_asked rest before now text done)
+does_asked (Tries holds fault rest) before now text (is, done) = asked_try StoresOnce holds fault rest before now is (does_asked rest before now text done)
 does_asked (Gets A is fault rest) before now text (a, holds, done) =
     asked_make StoresOnce A is rest before now a holds (does_asked (rest a) before now text done)
 does_asked (Makes A is rest) before now text (a, holds, done) =
@@ -79,9 +79,9 @@ module _ {F : Type 0} (shelf memory : F) (stores : List ℕ → List Ask → Typ
   stopped_asked (Stores name bytes says) before now stop failed (inr (is, later, rose, asked, files)) =
       asked_as before.asked now.asked (StoresOnce name) (AsksFor {F = F} stores before.files (Stores name bytes says)) asked (λ asks right. inr (failed name is asks right))
   stopped_asked (Fails fault) before now stop failed (same, is) = asked_nothing stores (Fails fault) before now same
-  stopped_asked (Tries kept fault rest) before now stop failed (inl (same, is)) = asked_nothing stores (Tries kept fault rest) before now same
-  stopped_asked (Tries kept fault rest) before now stop failed (inr (is, later)) =
-      asked_try stores kept fault rest before now is (stopped_asked rest before now stop failed later)
+  stopped_asked (Tries holds fault rest) before now stop failed (inl (same, is)) = asked_nothing stores (Tries holds fault rest) before now same
+  stopped_asked (Tries holds fault rest) before now stop failed (inr (is, later)) =
+      asked_try stores holds fault rest before now is (stopped_asked rest before now stop failed later)
   stopped_asked (Gets A is fault rest) before now stop failed (inl (same, here)) = asked_nothing stores (Gets A is fault rest) before now same
   stopped_asked (Gets A is fault rest) before now stop failed (inr (a, holds, later)) =
       asked_make stores A is rest before now a holds (stopped_asked (rest a) before now stop failed later)

@@ -34,10 +34,10 @@ module _ {F : Type 0} (shelf memory : F) where
   stop_cause (Stores name bytes says) before now stop (inr (is, later, rose, asked, files)) = Broken is tt rose
   stop_cause (Fails fault) before now stop (same, inl is) = Wanted is
   stop_cause (Fails fault) before now stop (same, inr is) = Refused is
-  stop_cause (Tries kept fault rest) before now stop (inl (same, inl is)) = Wanted is
-  stop_cause (Tries kept fault rest) before now stop (inl (same, inr here)) = Refused (inl here)
-  stop_cause (Tries kept fault rest) before now stop (inr (is, later)) =
-      past_cause (Tries kept fault rest) rest before before now stop refl (λ refuses. inr (is, refuses)) (λ comes. (is, comes)) (stop_cause rest before now stop later)
+  stop_cause (Tries holds fault rest) before now stop (inl (same, inl is)) = Wanted is
+  stop_cause (Tries holds fault rest) before now stop (inl (same, inr here)) = Refused (inl here)
+  stop_cause (Tries holds fault rest) before now stop (inr (is, later)) =
+      past_cause (Tries holds fault rest) rest before before now stop refl (λ refuses. inr (is, refuses)) (λ comes. (is, comes)) (stop_cause rest before now stop later)
   stop_cause (Gets A is fault rest) before now stop (inl (same, inl memory)) = Wanted memory
   stop_cause (Gets A is fault rest) before now stop (inl (same, inr here)) = Refused (inl here)
   stop_cause (Gets A is fault rest) before now stop (inr (a, holds, later)) =
@@ -62,7 +62,7 @@ pub does_passes : {F : Type 0} (plan : Plan F) (before now : ShelfTold) (text : 
 does_passes (Finishes says) before now text sound done = tt
 does_passes (Stores name bytes says) before now text sound done = tt
 does_passes (Fails fault) before now text sound done = done
-does_passes (Tries kept fault rest) before now text sound (is, done) = (is, does_passes rest before now text sound.1 done)
+does_passes (Tries holds fault rest) before now text sound (is, done) = (is, does_passes rest before now text sound.1 done)
 does_passes (Gets A is fault rest) before now text sound (a, holds, done) = (a, holds, does_passes (rest a) before now text (sound.1 a) done)
 does_passes (Makes A is rest) before now text sound (a, holds, done) =
     λ b also. subst (λ (x : A). Passes before.files (rest x)) (sound.0 a b holds also) (does_passes (rest a) before now text (sound.1 a) done)

@@ -16,7 +16,7 @@ pub does_counts : {F : Type 0} (plan : Plan F) (before now : ShelfTold) (text : 
 does_counts (Finishes says) before now text (same, holds) = same_counts before now same
 does_counts (Stores name bytes says) before now text (asked, counts, puts, holds) = counts
 does_counts (Fails fault) before now text done = absurd done
-does_counts (Tries kept fault rest) before now text (is, done) = does_counts rest before now text done
+does_counts (Tries holds fault rest) before now text (is, done) = does_counts rest before now text done
 does_counts (Gets A is fault rest) before now text (a, holds, done) = does_counts (rest a) before now text done
 does_counts (Makes A is rest) before now text (a, holds, done) = does_counts (rest a) before now text done
 does_counts (Reads name limit long rest) before now text (mid, read, counts, inl (longer, done)) = does_counts long mid now text done ∙ counts
@@ -42,8 +42,8 @@ module _ {F : Type 0} (shelf memory : F) where
     stops_keep (Stores name bytes says) before now (inl (is, _)) = same before now is
     stops_keep (Stores name bytes says) before now (inr (is, later, _, _, _)) = store before now is later
     stops_keep (Fails fault) before now (is, _) = same before now is
-    stops_keep (Tries kept fault rest) before now (inl (is, _)) = same before now is
-    stops_keep (Tries kept fault rest) before now (inr (_, later)) = stops_keep rest before now later
+    stops_keep (Tries holds fault rest) before now (inl (is, _)) = same before now is
+    stops_keep (Tries holds fault rest) before now (inr (_, later)) = stops_keep rest before now later
     stops_keep (Gets A is fault rest) before now (inl (is_same, _)) = same before now is_same
     stops_keep (Gets A is fault rest) before now (inr (a, _, later)) = stops_keep (rest a) before now later
     stops_keep (Makes A is rest) before now (inl (is_same, _)) = same before now is_same
@@ -75,8 +75,8 @@ module _ {F : Type 0} (shelf memory : F) where
   stops_uncounted (Finishes says) before now stop lacks stops = absurd lacks
   stops_uncounted (Stores name bytes says) before now stop lacks stops = absurd lacks
   stops_uncounted (Fails fault) before now stop lacks stops = absurd lacks
-  stops_uncounted (Tries kept fault rest) before now stop lacks (inl (same, is)) = same_counts before now same
-  stops_uncounted (Tries kept fault rest) before now stop lacks (inr (is, later)) = stops_uncounted rest before now stop (lacks is) later
+  stops_uncounted (Tries holds fault rest) before now stop lacks (inl (same, is)) = same_counts before now same
+  stops_uncounted (Tries holds fault rest) before now stop lacks (inr (is, later)) = stops_uncounted rest before now stop (lacks is) later
   stops_uncounted (Gets A is fault rest) before now stop lacks (inl (same, here)) = same_counts before now same
   stops_uncounted (Gets A is fault rest) before now stop lacks (inr (a, holds, later)) = stops_uncounted (rest a) before now stop (lacks a holds) later
   stops_uncounted (Makes A is rest) before now stop lacks (inl (same, here)) = same_counts before now same

@@ -10,7 +10,7 @@ abbrev pub EndsIn : {F : Type 0} → (P : Files → List ℕ → Type 0) → Pla
 EndsIn P (Finishes says) = (files : Files) (text : List ℕ) → says files text → P files text
 EndsIn P (Stores name bytes says) = ⊥
 EndsIn P (Fails fault) = Unit {0}
-EndsIn P (Tries kept fault rest) = EndsIn P rest
+EndsIn P (Tries holds fault rest) = EndsIn P rest
 EndsIn P (Gets A is fault rest) = (a : A) → EndsIn P (rest a)
 EndsIn P (Makes A is rest) = (a : A) → EndsIn P (rest a)
 EndsIn P (Reads name limit long rest) = EndsIn P long × ((bytes : List ℕ) → EndsIn P (rest bytes))
@@ -21,7 +21,7 @@ module _ {F : Type 0} (P : Files → List ℕ → Type 0) where
   does_end (Finishes says) before now text ends (same, is) = ends before.files text is
   does_end (Stores name bytes says) before now text ends done = absurd ends
   does_end (Fails fault) before now text ends done = absurd done
-  does_end (Tries kept fault rest) before now text ends (is, done) = does_end rest before now text ends done
+  does_end (Tries holds fault rest) before now text ends (is, done) = does_end rest before now text ends done
   does_end (Gets A is fault rest) before now text ends (a, holds, done) = does_end (rest a) before now text (ends a) done
   does_end (Makes A is rest) before now text ends (a, holds, done) = does_end (rest a) before now text (ends a) done
   does_end (Reads name limit long rest) before now text ends (mid, read, counts, inl (longer, done)) =

@@ -15,8 +15,8 @@ module _ {F : Type 0} {shelf memory : F} {plan : Plan F} {before : ShelfTold} wh
   pub leads_none : Leads shelf memory plan before plan before
   leads_none = record { stops = λ now stop is. is; does = λ now text is. is }
 
-  pub leads_try : {mid : ShelfTold} {kept : Type 0} {fault : F → Type 0} {rest : Plan F}
-      → Leads shelf memory plan before (Tries kept fault rest) mid → kept → Leads shelf memory plan before rest mid
+  pub leads_try : {mid : ShelfTold} {holds : Type 0} {fault : F → Type 0} {rest : Plan F}
+      → Leads shelf memory plan before (Tries holds fault rest) mid → holds → Leads shelf memory plan before rest mid
   leads_try leads is = record {
     stops = λ now stop later. leads.stops now stop (record { so = inr (is, later.so) });
     does = λ now text later. leads.does now text (record { so = (is, later.so) });

@@ -33,7 +33,7 @@ pub does_leaves : {F : Type 0} (plan : Plan F) (before now : ShelfTold) (text : 
 does_leaves (Finishes says) before now text (same, holds) = inl (same_files before now same)
 does_leaves (Stores name bytes says) before now text (asked, counts, puts, holds) = inr (puts_all before.files now.files name bytes puts)
 does_leaves (Fails fault) before now text done = absurd done
-does_leaves (Tries kept fault rest) before now text (is, done) = left_past (does_leaves rest before now text done) (λ leaves. (is, leaves))
+does_leaves (Tries holds fault rest) before now text (is, done) = left_past (does_leaves rest before now text done) (λ leaves. (is, leaves))
 does_leaves (Gets A is fault rest) before now text (a, holds, done) = left_past (does_leaves (rest a) before now text done) (λ leaves. (a, holds, leaves))
 does_leaves (Makes A is rest) before now text (a, holds, done) = left_past (does_leaves (rest a) before now text done) (λ leaves. (a, holds, leaves))
 does_leaves (Reads name limit long rest) before now text (mid, read, counts, inl (longer, done)) =
@@ -48,8 +48,8 @@ module _ {F : Type 0} (shelf memory : F) where
   stops_leaves (Stores name bytes says) before now stop (inl (same, is)) = inl (same_files before now same)
   stops_leaves (Stores name bytes says) before now stop (inr (is, later, rose, asked, files)) = files
   stops_leaves (Fails fault) before now stop (same, is) = inl (same_files before now same)
-  stops_leaves (Tries kept fault rest) before now stop (inl (same, is)) = inl (same_files before now same)
-  stops_leaves (Tries kept fault rest) before now stop (inr (is, later)) = left_past (stops_leaves rest before now stop later) (λ leaves. (is, leaves))
+  stops_leaves (Tries holds fault rest) before now stop (inl (same, is)) = inl (same_files before now same)
+  stops_leaves (Tries holds fault rest) before now stop (inr (is, later)) = left_past (stops_leaves rest before now stop later) (λ leaves. (is, leaves))
   stops_leaves (Gets A is fault rest) before now stop (inl (same, here)) = inl (same_files before now same)
   stops_leaves (Gets A is fault rest) before now stop (inr (a, holds, later)) = left_past (stops_leaves (rest a) before now stop later) (λ leaves. (a, holds, leaves))
   stops_leaves (Makes A is rest) before now stop (inl (same, here)) = inl (same_files before now same)

@@ -22,9 +22,9 @@ module _ {F : Type 0} (shelf : F) (files : Files) where
   passes_not_refused (Finishes says) stop known sound passes refused = refused
   passes_not_refused (Stores name bytes says) stop known sound passes refused = refused
   passes_not_refused (Fails fault) stop known sound passes refused = passes
-  passes_not_refused (Tries kept fault rest) stop known sound passes (inl here) = sound.0.breaks stop here passes.0
-  passes_not_refused (Tries kept fault rest) stop known sound passes (inr later) =
-      passes_not_refused rest stop (known_past files (Tries kept fault rest) rest (λ comes. (later.0, comes)) known) sound.1 passes.1 later.1
+  passes_not_refused (Tries holds fault rest) stop known sound passes (inl here) = sound.0.breaks stop here passes.0
+  passes_not_refused (Tries holds fault rest) stop known sound passes (inr later) =
+      passes_not_refused rest stop (known_past files (Tries holds fault rest) rest (λ comes. (later.0, comes)) known) sound.1 passes.1 later.1
   passes_not_refused (Gets A is fault rest) stop known sound (a, holds, passes) (inl here) = sound.0.breaks a stop here holds
   passes_not_refused (Gets A is fault rest) stop known sound (a, holds, passes) (inr (b, also, later)) =
       passes_not_refused (rest b) stop (known_past files (Gets A is fault rest) (rest b) (λ comes. (b, also, comes)) known) (sound.1 b)
@@ -49,11 +49,11 @@ module _ {F : Type 0} (shelf : F) (files : Files) where
   one_refusal (Finishes says) a b known sound is also = absurd is
   one_refusal (Stores name bytes says) a b known sound is also = absurd is
   one_refusal (Fails fault) a b known sound is also = is ∙ sym also
-  one_refusal (Tries kept fault rest) a b known sound (inl here) (inl also) = sound.0.one a b here also
-  one_refusal (Tries kept fault rest) a b known sound (inl here) (inr later) = absurd (sound.0.breaks a here later.0)
-  one_refusal (Tries kept fault rest) a b known sound (inr later) (inl here) = absurd (sound.0.breaks b here later.0)
-  one_refusal (Tries kept fault rest) a b known sound (inr later) (inr also) =
-      one_refusal rest a b (known_past files (Tries kept fault rest) rest (λ comes. (later.0, comes)) known) sound.1 later.1 also.1
+  one_refusal (Tries holds fault rest) a b known sound (inl here) (inl also) = sound.0.one a b here also
+  one_refusal (Tries holds fault rest) a b known sound (inl here) (inr later) = absurd (sound.0.breaks a here later.0)
+  one_refusal (Tries holds fault rest) a b known sound (inr later) (inl here) = absurd (sound.0.breaks b here later.0)
+  one_refusal (Tries holds fault rest) a b known sound (inr later) (inr also) =
+      one_refusal rest a b (known_past files (Tries holds fault rest) rest (λ comes. (later.0, comes)) known) sound.1 later.1 also.1
   one_refusal (Gets A is fault rest) a b known sound (inl here) (inl also) = sound.0.one a b here also
   one_refusal (Gets A is fault rest) a b known sound (inl here) (inr (x, holds, later)) = absurd (sound.0.breaks x a here holds)
   one_refusal (Gets A is fault rest) a b known sound (inr (x, holds, later)) (inl here) = absurd (sound.0.breaks x b here holds)

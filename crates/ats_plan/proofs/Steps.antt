@@ -9,7 +9,7 @@ stops_first : {F : Type 0} (shelf memory : F) (plan : Plan F) (told : ShelfTold)
 stops_first shelf memory (Finishes says) told = (refl, refl)
 stops_first shelf memory (Stores name bytes says) told = inl (refl, refl)
 stops_first shelf memory (Fails fault) told = (refl, inl refl)
-stops_first shelf memory (Tries kept fault rest) told = inl (refl, inl refl)
+stops_first shelf memory (Tries holds fault rest) told = inl (refl, inl refl)
 stops_first shelf memory (Gets A is fault rest) told = inl (refl, inl refl)
 stops_first shelf memory (Makes A is rest) told = inl (refl, refl)
 stops_first shelf memory (Reads name limit long rest) told = inl (refl, refl)
@@ -20,8 +20,8 @@ module _ {F : Type 0} {shelf memory : F} {before : ShelfTold} where
   pub at_memory : {plan : Plan F} → IsStopped shelf memory plan before before memory
   at_memory {plan} = record { so = stops_first shelf memory plan before }
 
-  pub at_try : {kept : Type 0} {fault : F → Type 0} {rest : Plan F} {stop : F} → fault stop
-      → IsStopped shelf memory (Tries kept fault rest) before before stop
+  pub at_try : {holds : Type 0} {fault : F → Type 0} {rest : Plan F} {stop : F} → fault stop
+      → IsStopped shelf memory (Tries holds fault rest) before before stop
   at_try fault = record { so = inl (refl, inr fault) }
 
   pub at_get : {A : Type 0} {is : A → Type 0} {fault : F → Type 0} {rest : A → Plan F} {stop : F} → fault stop
@@ -43,9 +43,9 @@ module _ {F : Type 0} {before now : ShelfTold} {text : List ℕ} where
       → IsDone {F = F} (Stores name bytes says) before now text
   done_store asked counts puts holds = record { so = (asked, counts, puts, holds) }
 
-  pub done_try : {kept : Type 0} {fault : F → Type 0} {rest : Plan F} → kept → IsDone rest before now text
-      → IsDone (Tries kept fault rest) before now text
-  done_try kept later = record { so = (kept, later.so) }
+  pub done_try : {holds : Type 0} {fault : F → Type 0} {rest : Plan F} → holds → IsDone rest before now text
+      → IsDone (Tries holds fault rest) before now text
+  done_try holds later = record { so = (holds, later.so) }
 
   pub done_get : {A : Type 0} {is : A → Type 0} {fault : F → Type 0} {rest : A → Plan F} (a : A) → is a
       → IsDone (rest a) before now text → IsDone (Gets A is fault rest) before now text

@@ -18,8 +18,8 @@ module _ {F : Type 0} (shelf memory : F) where
   stops_memory (Stores name bytes says) before now stop (inl (same, is)) other = inl (same, refl)
   stops_memory (Stores name bytes says) before now stop (inr (is, later, rose, asked, files)) other = absurd (other is)
   stops_memory (Fails fault) before now stop (same, is) other = (same, inl refl)
-  stops_memory (Tries kept fault rest) before now stop (inl (same, is)) other = inl (same, inl refl)
-  stops_memory (Tries kept fault rest) before now stop (inr (is, later)) other = inr (is, stops_memory rest before now stop later other)
+  stops_memory (Tries holds fault rest) before now stop (inl (same, is)) other = inl (same, inl refl)
+  stops_memory (Tries holds fault rest) before now stop (inr (is, later)) other = inr (is, stops_memory rest before now stop later other)
   stops_memory (Gets A is fault rest) before now stop (inl (same, here)) other = inl (same, inl refl)
   stops_memory (Gets A is fault rest) before now stop (inr (a, holds, later)) other = inr (a, holds, stops_memory (rest a) before now stop later other)
   stops_memory (Makes A is rest) before now stop (inl (same, here)) other = inl (same, refl)
@@ -36,8 +36,8 @@ module _ {F : Type 0} (shelf memory : F) where
   stops_untouched (Finishes says) before now stop none (same, is) = same
   stops_untouched (Stores name bytes says) before now stop none stops = absurd (none tt)
   stops_untouched (Fails fault) before now stop none (same, is) = same
-  stops_untouched (Tries kept fault rest) before now stop none (inl (same, is)) = same
-  stops_untouched (Tries kept fault rest) before now stop none (inr (is, later)) = stops_untouched rest before now stop (λ comes. none (is, comes)) later
+  stops_untouched (Tries holds fault rest) before now stop none (inl (same, is)) = same
+  stops_untouched (Tries holds fault rest) before now stop none (inr (is, later)) = stops_untouched rest before now stop (λ comes. none (is, comes)) later
   stops_untouched (Gets A is fault rest) before now stop none (inl (same, here)) = same
   stops_untouched (Gets A is fault rest) before now stop none (inr (a, holds, later)) = stops_untouched (rest a) before now stop (λ comes. none (a, holds, comes)) later
   stops_untouched (Makes A is rest) before now stop none (inl (same, here)) = same
@@ -49,7 +49,7 @@ pub does_untouched : {F : Type 0} (plan : Plan F) (before now : ShelfTold) (text
 does_untouched (Finishes says) before now text none (same, holds) = same
 does_untouched (Stores name bytes says) before now text none done = absurd (none tt)
 does_untouched (Fails fault) before now text none done = absurd done
-does_untouched (Tries kept fault rest) before now text none (is, done) = does_untouched rest before now text (λ comes. none (is, comes)) done
+does_untouched (Tries holds fault rest) before now text none (is, done) = does_untouched rest before now text (λ comes. none (is, comes)) done
 does_untouched (Gets A is fault rest) before now text none (a, holds, done) = does_untouched (rest a) before now text (λ comes. none (a, holds, comes)) done
 does_untouched (Makes A is rest) before now text none (a, holds, done) = does_untouched (rest a) before now text (λ comes. none (a, holds, comes)) done
 does_untouched (Reads name limit long rest) before now text none done = absurd (none tt)

@@ -25,7 +25,7 @@ abbrev pub Refuses : {F : Type 0} → (shelf : F) → Files → Plan F → F →
 Refuses shelf files (Finishes says) stop = ⊥
 Refuses shelf files (Stores name bytes says) stop = ⊥
 Refuses shelf files (Fails fault) stop = stop ≡ fault
-Refuses shelf files (Tries kept fault rest) stop = fault stop ⊎ (kept × Refuses shelf files rest stop)
+Refuses shelf files (Tries holds fault rest) stop = fault stop ⊎ (holds × Refuses shelf files rest stop)
 Refuses shelf files (Gets A is fault rest) stop = fault stop ⊎ ((a : A) × is a × Refuses shelf files (rest a) stop)
 Refuses shelf files (Makes A is rest) stop = (a : A) × is a × Refuses shelf files (rest a) stop
 Refuses shelf files (Reads name limit long rest) stop = ((stop ≡ shelf) × IsMissing files name)
@@ -38,7 +38,7 @@ abbrev pub Passes : {F : Type 0} → Files → Plan F → Type 0
 Passes files (Finishes says) = Unit {0}
 Passes files (Stores name bytes says) = Unit {0}
 Passes files (Fails fault) = ⊥
-Passes files (Tries kept fault rest) = kept × Passes files rest
+Passes files (Tries holds fault rest) = holds × Passes files rest
 Passes files (Gets A is fault rest) = (a : A) × is a × Passes files (rest a)
 Passes files (Makes A is rest) = (a : A) → is a → Passes files (rest a)
 Passes files (Reads name limit long rest) = (IsLonger files name limit × Passes files long)
@@ -49,7 +49,7 @@ abbrev pub ComesToShelf : {F : Type 0} → Plan F → Type 0
 ComesToShelf (Finishes says) = ⊥
 ComesToShelf (Stores name bytes says) = Unit {0}
 ComesToShelf (Fails fault) = ⊥
-ComesToShelf (Tries kept fault rest) = kept × ComesToShelf rest
+ComesToShelf (Tries holds fault rest) = holds × ComesToShelf rest
 ComesToShelf (Gets A is fault rest) = (a : A) × is a × ComesToShelf (rest a)
 ComesToShelf (Makes A is rest) = (a : A) × is a × ComesToShelf (rest a)
 ComesToShelf (Reads name limit long rest) = Unit {0}
@@ -63,7 +63,7 @@ abbrev pub LacksFirst : {F : Type 0} → Files → Plan F → Type 0
 LacksFirst files (Finishes says) = ⊥
 LacksFirst files (Stores name bytes says) = ⊥
 LacksFirst files (Fails fault) = ⊥
-LacksFirst files (Tries kept fault rest) = kept → LacksFirst files rest
+LacksFirst files (Tries holds fault rest) = holds → LacksFirst files rest
 LacksFirst files (Gets A is fault rest) = (a : A) → is a → LacksFirst files (rest a)
 LacksFirst files (Makes A is rest) = (a : A) → is a → LacksFirst files (rest a)
 LacksFirst files (Reads name limit long rest) = IsMissing files name
@@ -74,7 +74,7 @@ abbrev pub AsksFor : {F : Type 0} → (stores : List ℕ → List Ask → Type 0
 AsksFor stores files (Finishes says) asks = asks ≡ []
 AsksFor stores files (Stores name bytes says) asks = (asks ≡ []) ⊎ stores name asks
 AsksFor stores files (Fails fault) asks = asks ≡ []
-AsksFor stores files (Tries kept fault rest) asks = (asks ≡ []) ⊎ (kept × AsksFor stores files rest asks)
+AsksFor stores files (Tries holds fault rest) asks = (asks ≡ []) ⊎ (holds × AsksFor stores files rest asks)
 AsksFor stores files (Gets A is fault rest) asks =
     (asks ≡ []) ⊎ ((a : A) × is a × AsksFor stores files (rest a) asks)
 AsksFor stores files (Makes A is rest) asks = (asks ≡ []) ⊎ ((a : A) × is a × AsksFor stores files (rest a) asks)
@@ -88,7 +88,7 @@ abbrev pub Leaves : {F : Type 0} → (before now : Files) → Plan F → Type 0
 Leaves before now (Finishes says) = ⊥
 Leaves before now (Stores name bytes says) = PutsPart before now name bytes
 Leaves before now (Fails fault) = ⊥
-Leaves before now (Tries kept fault rest) = kept × Leaves before now rest
+Leaves before now (Tries holds fault rest) = holds × Leaves before now rest
 Leaves before now (Gets A is fault rest) = (a : A) × is a × Leaves before now (rest a)
 Leaves before now (Makes A is rest) = (a : A) × is a × Leaves before now (rest a)
 Leaves before now (Reads name limit long rest) = (IsLonger before name limit × Leaves before now long)

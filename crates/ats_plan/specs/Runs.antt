@@ -23,7 +23,7 @@ Does (Finishes says) before now text = (now ≡ before) × says before.files tex
 Does (Stores name bytes says) before now text = Asked before.asked now.asked (StoresOnce name)
     × (now.faults ≡ before.faults) × Puts before.files now.files name bytes × says before.files now.files text
 Does (Fails fault) before now text = ⊥
-Does (Tries kept fault rest) before now text = kept × Does rest before now text
+Does (Tries holds fault rest) before now text = holds × Does rest before now text
 Does (Gets A is fault rest) before now text = (a : A) × is a × Does (rest a) before now text
 Does (Makes A is rest) before now text = (a : A) × is a × Does (rest a) before now text
 Does (Reads name limit long rest) before now text = (mid : ShelfTold)
@@ -39,8 +39,8 @@ Stops shelf memory (Stores name bytes says) before now stop = ((now ≡ before) 
     × Asked before.asked now.asked (StoresOnce name)
     × ((now.files ≡ before.files) ⊎ PutsPart before.files now.files name bytes))
 Stops shelf memory (Fails fault) before now stop = (now ≡ before) × ((stop ≡ memory) ⊎ (stop ≡ fault))
-Stops shelf memory (Tries kept fault rest) before now stop = ((now ≡ before) × ((stop ≡ memory) ⊎ fault stop))
-    ⊎ (kept × Stops shelf memory rest before now stop)
+Stops shelf memory (Tries holds fault rest) before now stop = ((now ≡ before) × ((stop ≡ memory) ⊎ fault stop))
+    ⊎ (holds × Stops shelf memory rest before now stop)
 Stops shelf memory (Gets A is fault rest) before now stop = ((now ≡ before) × ((stop ≡ memory) ⊎ fault stop))
     ⊎ ((a : A) × is a × Stops shelf memory (rest a) before now stop)
 Stops shelf memory (Makes A is rest) before now stop = ((now ≡ before) × (stop ≡ memory))

@@ -21,8 +21,8 @@ docs_left (suc n) ids leaves some = omega arith
 
 pub docs_first : (n : ℕ) (ids leaves : List ℕ) → 0 < n → 36 ≤ length leaves → AreBytes leaves
     → take 4 leaves ++ take 32 (drop 4 leaves) ≡ first_leaf (shown_docs (parts_in id_size id_in n ids) (parts_in doc_size doc_in n leaves))
-docs_first zero ids leaves some room small = absurd (omega (arith, some))
-docs_first (suc n) ids leaves some room small = ap (λ (xs : List ℕ). xs ++ take 32 (drop 4 leaves)) (sym (be_4 leaves (omega (arith, room)) small))
+docs_first zero ids leaves some space small = absurd (omega (arith, some))
+docs_first (suc n) ids leaves some space small = ap (λ (xs : List ℕ). xs ++ take 32 (drop 4 leaves)) (sym (be_4 leaves (omega (arith, space)) small))
 
 pub rest_ids_rise : (n : ℕ) (ids : List ℕ) → 0 < n → IsStrictlyIncreasing (parts_in id_size id_in n ids) → IsStrictlyIncreasing (parts_in id_size id_in (n - 1) (drop 4 ids))
 rest_ids_rise n ids some rises = increasing-tail (number_in 4 ids) (parts_in id_size id_in (n - 1) (drop 4 ids)) (subst IsStrictlyIncreasing (parts_more id_size id_in n ids some) rises)

@@ -39,13 +39,13 @@ small-take k bytes small i = elim (cases_lt i k) [
 ]
 
 pub be_2 : (bytes : List ℕ) → 2 ≤ length bytes → AreBytes bytes → to_be_bytes w16 (number_in 2 bytes) ≡ take 2 bytes
-be_2 bytes room small =
-    let two = length-take-le 2 bytes room in
+be_2 bytes space small =
+    let two = length-take-le 2 bytes space in
     be_bytes_2 (take 2 bytes) (number_in 2 bytes) two (small-take 2 bytes small) (number_2 (take 2 bytes) two)
 
 pub be_4 : (bytes : List ℕ) → 4 ≤ length bytes → AreBytes bytes → to_be_bytes w32 (number_in 4 bytes) ≡ take 4 bytes
-be_4 bytes room small =
-    let four = length-take-le 4 bytes room in
+be_4 bytes space small =
+    let four = length-take-le 4 bytes space in
     be_bytes_4 (take 4 bytes) (number_in 4 bytes) four (small-take 4 bytes small) (number_4 (take 4 bytes) four)
 
 -- ---- leaves of a list
@@ -62,11 +62,11 @@ list_rises at met (e ∷ f ∷ es) (suc k) below =
 -- the met id that an entry names, then the entry's impact
 pub named_bytes : (n : ℕ) (ids entries : List ℕ) → number_in 4 entries < n → n * 4 ≤ length ids → 6 ≤ length entries → AreBytes ids → AreBytes entries
     → take 4 (drop (4 * number_in 4 entries) ids) ++ take 2 (drop 4 entries) ≡ leaf_bytes (named (parts_in (λ _. 4) id_in n ids) (posting_in entries))
-named_bytes n ids entries within room some small_ids small_entries =
+named_bytes n ids entries within space some small_ids small_entries =
     let i = number_in 4 entries in
     let there = drop (4 * i) ids in
     let id = get_or_from_slice_get (parts_in (λ _. 4) id_in n ids) i (number_in 4 there) 0 (part_at 4 id_in n i ids within) in
-    let four : 4 ≤ length there = omega (arith, within, room, length-drop (4 * i) ids) in
+    let four : 4 ≤ length there = omega (arith, within, space, length-drop (4 * i) ids) in
     let two : 2 ≤ length (drop 4 entries) = omega (arith, some, length-drop 4 entries) in
     ap₂ (λ (xs ys : List ℕ). xs ++ ys) (sym (be_4 there four (small-drop (4 * i) ids small_ids)) ∙ ap (to_be_bytes w32) (sym id))
     (sym (be_2 (drop 4 entries) two (small-drop 4 entries small_entries)))
@@ -80,32 +80,32 @@ head_byte (b ∷ bs) some = let e : b ≡ b * 1 + 0 = omega arith in ap (λ (n :
 -- the length and the term
 front_bytes : (bytes : List ℕ) → 5 + term_length_in bytes ≤ length bytes
     → take (1 + term_length_in bytes) (drop 4 bytes) ≡ length (take (term_length_in bytes) (drop 5 bytes)) ∷ take (term_length_in bytes) (drop 5 bytes)
-front_bytes bytes room =
+front_bytes bytes space =
     let l = term_length_in bytes in
     let term = take l (drop 5 bytes) in
-    let size : length term ≡ l = length-take-le l (drop 5 bytes) (omega (arith, room, length-drop 5 bytes)) in
-    take-add 1 l (drop 4 bytes) ∙ ap₂ (λ (xs ys : List ℕ). xs ++ take l ys) (head_byte (drop 4 bytes) (omega (arith, room, length-drop 4 bytes))) (drop-drop 1 4 bytes)
+    let size : length term ≡ l = length-take-le l (drop 5 bytes) (omega (arith, space, length-drop 5 bytes)) in
+    take-add 1 l (drop 4 bytes) ∙ ap₂ (λ (xs ys : List ℕ). xs ++ take l ys) (head_byte (drop 4 bytes) (omega (arith, space, length-drop 4 bytes))) (drop-drop 1 4 bytes)
     ∙ ap (λ (n : ℕ). n ∷ term) (sym size)
 
 -- the length, the term, and the bytes after it
 leaf_parts : (behind : ℕ) (bytes : List ℕ) → 5 + term_length_in bytes ≤ length bytes
     → take (1 + term_length_in bytes + behind) (drop 4 bytes)
     ≡ (length (take (term_length_in bytes) (drop 5 bytes)) ∷ take (term_length_in bytes) (drop 5 bytes)) ++ take behind (drop (5 + term_length_in bytes) bytes)
-leaf_parts behind bytes room =
+leaf_parts behind bytes space =
     take-add (1 + term_length_in bytes) behind (drop 4 bytes)
-    ∙ ap₂ (λ (xs ys : List ℕ). xs ++ take behind ys) (front_bytes bytes room) (behind_term bytes)
+    ∙ ap₂ (λ (xs ys : List ℕ). xs ++ take behind ys) (front_bytes bytes space) (behind_term bytes)
 
 pub entry_bytes : (bytes : List ℕ) → entry_size bytes ≤ length bytes → AreBytes bytes → leaf_in 36 bytes ≡ shown_entry (entry_in bytes)
 unfolding dict_leaf_bytes
-entry_bytes bytes room small =
+entry_bytes bytes space small =
     let l = term_length_in bytes in
     let term = take l (drop 5 bytes) in
     let later = drop (5 + l) bytes in
-    let f : take 4 later ≡ to_be_bytes w32 (number_in 4 later) = sym (be_4 later (omega (arith, room, length-drop (5 + l) bytes)) (small-drop (5 + l) bytes small)) in
+    let f : take 4 later ≡ to_be_bytes w32 (number_in 4 later) = sym (be_4 later (omega (arith, space, length-drop (5 + l) bytes)) (small-drop (5 + l) bytes small)) in
     let back : take 36 later ≡ to_be_bytes w32 (number_in 4 later) ++ take 32 (drop (5 + l + 4) bytes) =
     take-add 4 32 later ∙ ap₂ (λ (xs ys : List ℕ). xs ++ take 32 ys) f (drop-drop 4 (5 + l) bytes) in
     let whole : take (1 + l + 36) (drop 4 bytes) ≡ (length term ∷ term) ++ (to_be_bytes w32 (number_in 4 later) ++ take 32 (drop (5 + l + 4) bytes)) =
-    leaf_parts 36 bytes (omega (arith, room)) ∙ ap (λ (xs : List ℕ). (length term ∷ term) ++ xs) back in
+    leaf_parts 36 bytes (omega (arith, space)) ∙ ap (λ (xs : List ℕ). (length term ∷ term) ++ xs) back in
     ap (λ (xs : List ℕ). (number_in 4 bytes, xs)) (whole ∙ sym (append_assoc (length term ∷ term) (to_be_bytes w32 (number_in 4 later)) (take 32 (drop (5 + l + 4) bytes))))
 
 pub entries_bytes : (n : ℕ) (bytes : List ℕ) → total_size entry_size n bytes ≤ length bytes → AreBytes bytes → leaves_in 36 n bytes ≡ map shown_entry (parts_in entry_size entry_in n bytes)
@@ -118,12 +118,12 @@ entries_bytes (suc n) bytes fits small =
 
 term_bytes : (bytes : List ℕ) → term_size bytes ≤ length bytes → AreBytes bytes → leaf_in 2 bytes ≡ shown_term (term_in bytes)
 unfolding terms.leaf_bytes
-term_bytes bytes room small =
+term_bytes bytes space small =
     let l = term_length_in bytes in
     let later = drop (5 + l) bytes in
-    let impact = be_2 later (omega (arith, room, length-drop (5 + l) bytes)) (small-drop (5 + l) bytes small) in
+    let impact = be_2 later (omega (arith, space, length-drop (5 + l) bytes)) (small-drop (5 + l) bytes small) in
     ap (λ (xs : List ℕ). (number_in 4 bytes, xs))
-    (leaf_parts 2 bytes (omega (arith, room)) ∙ ap (λ (xs : List ℕ). (length (take l (drop 5 bytes)) ∷ take l (drop 5 bytes)) ++ xs) (sym impact))
+    (leaf_parts 2 bytes (omega (arith, space)) ∙ ap (λ (xs : List ℕ). (length (take l (drop 5 bytes)) ∷ take l (drop 5 bytes)) ++ xs) (sym impact))
 
 pub terms_bytes : (n : ℕ) (bytes : List ℕ) → total_size term_size n bytes ≤ length bytes → AreBytes bytes → leaves_in 2 n bytes ≡ map shown_term (parts_in term_size term_in n bytes)
 terms_bytes zero bytes fits small = refl

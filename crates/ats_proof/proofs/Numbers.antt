@@ -9,8 +9,8 @@ pub use Rattle.ats_grammar.proofs.Public.{length-spelled, number-spelled, spelle
 
 -- the number that is read at the front
 pub number_read : (n : ℕ) (bytes : List ℕ) → n ≤ length bytes → big_number n bytes ≡ number_in n bytes
-number_read zero bytes room = refl
-number_read (suc n) [] room = absurd (omega (arith, room))
-number_read (suc n) (b ∷ bs) room =
-    let rest : big_from 1 n (b ∷ bs) ≡ number_in n bs = big_from-cons 0 n b bs ∙ number_read n bs (omega (arith, room)) in
-    ap₂ (λ (k r : ℕ). b * 256 ^ k + r) (sym (length-take-le n bs (omega (arith, room)))) rest
+number_read zero bytes space = refl
+number_read (suc n) [] space = absurd (omega (arith, space))
+number_read (suc n) (b ∷ bs) space =
+    let rest : big_from 1 n (b ∷ bs) ≡ number_in n bs = big_from-cons 0 n b bs ∙ number_read n bs (omega (arith, space)) in
+    ap₂ (λ (k r : ℕ). b * 256 ^ k + r) (sym (length-take-le n bs (omega (arith, space)))) rest

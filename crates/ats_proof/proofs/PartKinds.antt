@@ -80,7 +80,7 @@ one_doc s k fields bytes is = then_bytes (then_number (nothing (doc_part s k) fi
 -- ---- a leaf of the dictionary, and one of a document's terms
 
 length-term : (n : ℕ) (k : ℕ) (bytes : List ℕ) → n + k ≤ length bytes → length (take k (drop n bytes)) ≡ k
-length-term n k bytes room = length-take-le k (drop n bytes) (omega (arith, room, length-drop n bytes))
+length-term n k bytes space = length-take-le k (drop n bytes) (omega (arith, space, length-drop n bytes))
 
 abbrev pub entry_part : ℕ → (ℕ → Table) → Table
 entry_part low k = rising low (λ p. term_length (λ size. Bytes size (any_4 (λ _. Bytes 32 (k (p + 1))))))
@@ -93,7 +93,7 @@ one_entry low k fields bytes is =
     let c = then_bytes b.front in
     let d = then_number c in
     let e = then_bytes d.front in
-    let same = sym (length-term 5 (term_length_in bytes) bytes (omega (arith, e.room))) in
+    let same = sym (length-term 5 (term_length_in bytes) bytes (omega (arith, e.space))) in
     let size : 5 + term_length_in bytes + 4 + 32 ≡ entry_size bytes = omega arith in
     let whole = subst (λ (n : ℕ). HasFront (spelled 4 (number_in 4 bytes) ∷ spelled 1 (term_length_in bytes) ∷ (entry_in bytes).entry.term ∷ spelled 4 (entry_in bytes).entry.f ∷ (entry_in bytes).entry.root ∷ [])
     n (k (number_in 4 bytes + 1)) fields bytes) size e in
@@ -110,6 +110,6 @@ one_term low k fields bytes is =
     let b = then_number a.front in
     let c = then_bytes b.front in
     let d = then_number c in
-    let same = sym (length-term 5 (term_length_in bytes) bytes (omega (arith, d.front.room))) in
+    let same = sym (length-term 5 (term_length_in bytes) bytes (omega (arith, d.front.space))) in
     subst (λ (n : ℕ). HasFront (spelled 4 (number_in 4 bytes) ∷ spelled 1 n ∷ (term_in bytes).term.0 ∷ spelled 2 (term_in bytes).term.1 ∷ [])
     (term_size bytes) (k (number_in 4 bytes + 1)) fields bytes) same d.front

@@ -16,11 +16,11 @@ module _ (view : Inside) (placed : IsPlaced view.bytes.now view.tra view.begun v
   pub ids_start : drop (view.begun.met_at + 4) view.bytes.now ≡ drop 4 (drop (met_place view.bytes.now) view.bytes.now)
   ids_start = ap (λ (n : ℕ). drop (n + 4) view.bytes.now) placed.first.met_at ∙ sym (drop-drop 4 (met_place view.bytes.now) view.bytes.now)
 
-  pub ids_room : view.begun.met * 4 ≤ length (drop (view.begun.met_at + 4) view.bytes.now)
-  ids_room =
+  pub ids_space : view.begun.met * 4 ≤ length (drop (view.begun.met_at + 4) view.bytes.now)
+  ids_space =
       let bytes = view.bytes.now in
       let fours = total_fixed 4 (λ b. b) (met_in bytes) (drop 4 (drop (met_place bytes) bytes)) in
-      omega (arith, placed.first.met, placed.first.met_at, fours, placed.room.docs, length-drop (view.begun.met_at + 4) bytes)
+      omega (arith, placed.first.met, placed.first.met_at, fours, placed.space.docs, length-drop (view.begun.met_at + 4) bytes)
 
   pub ids_shown : parts_in id_size id_in view.begun.met (drop (view.begun.met_at + 4) view.bytes.now) ≡ (proof_in view.bytes.now).met
   ids_shown = ap₂ (λ n xs. parts_in id_size id_in n xs) placed.first.met ids_start
@@ -44,19 +44,19 @@ module _ (view : Inside) (placed : IsPlaced view.bytes.now view.tra view.begun v
   is_true : is_tra view.bytes.now ≡ true
   is_true = sym placed.same ∙ tra
 
-  pub answer_room : answer_place true view.bytes.now ≤ length view.bytes.now
-  answer_room =
-      let h : answer_place (is_tra view.bytes.now) view.bytes.now ≤ length view.bytes.now = omega (arith, placed.room.answer) in
+  pub answer_space : answer_place true view.bytes.now ≤ length view.bytes.now
+  answer_space =
+      let h : answer_place (is_tra view.bytes.now) view.bytes.now ≤ length view.bytes.now = omega (arith, placed.space.answer) in
       subst (λ (t : Bool). answer_place t view.bytes.now ≤ length view.bytes.now) is_true h
 
   leaves_start : drop view.docs view.bytes.now ≡ drop (docs_place view.bytes.now) view.bytes.now
   leaves_start = ap (λ (n : ℕ). drop n view.bytes.now) placed.docs_at
 
-  pub leaves_room : view.begun.met * 36 ≤ length (drop view.docs view.bytes.now)
-  leaves_room =
+  pub leaves_space : view.begun.met * 36 ≤ length (drop view.docs view.bytes.now)
+  leaves_space =
       let bytes = view.bytes.now in
       let wide = total_fixed 36 (λ b. b) (met_in bytes) (drop (docs_place bytes) bytes) in
-      rw leaves_start (omega (arith, placed.first.met, wide, answer_room, length-drop (docs_place bytes) bytes))
+      rw leaves_start (omega (arith, placed.first.met, wide, answer_space, length-drop (docs_place bytes) bytes))
 
   pub digests_start : drop view.ended.doc_digests view.bytes.now ≡ drop (doc_digests_place view.bytes.now) view.bytes.now
   digests_start = ap (λ (n : ℕ). drop n view.bytes.now) (placed.rest.doc_digests tra)
@@ -65,7 +65,7 @@ module _ (view : Inside) (placed : IsPlaced view.bytes.now view.tra view.begun v
   sections_start = ap (λ (n : ℕ). drop n view.bytes.now) (placed.rest.sections tra)
 
   pub sections_fit : total_size (section_size view.begun.present) view.begun.met (drop view.ended.sections view.bytes.now) ≤ length (drop view.ended.sections view.bytes.now)
-  sections_fit = rw (sections_start, placed.first.met, placed.first.present) (omega (arith, answer_room, length-drop (sections_place view.bytes.now) view.bytes.now))
+  sections_fit = rw (sections_start, placed.first.met, placed.first.present) (omega (arith, answer_space, length-drop (sections_place view.bytes.now) view.bytes.now))
 
   shown_rise : sections_rise (present_in (slots_in view.bytes.now)) (met_in view.bytes.now) (drop (sections_place view.bytes.now) view.bytes.now)
   shown_rise i section within = (((in_range view.bytes.now (proof_in view.bytes.now) placed.spelled).shown _ (ap (λ (t : Bool). documents_in t view.bytes.now) is_true)).sections i section within).rises

@@ -19,7 +19,7 @@ pub record HasFront (front : List (List ℕ)) (size : ℕ) (rest : Table) (field
   pub after : List (List ℕ)
   pub split : fields ≡ front ++ after
   pub stands : Stands rest after (drop size bytes)
-  pub room : size ≤ length bytes
+  pub space : size ≤ length bytes
 
 abbrev pub IsEnd : Table → Type 0
 IsEnd End = Unit {0}
@@ -52,7 +52,7 @@ join_front front after size rest bytes join small same come =
       after = after;
       split = ap (λ (x : List ℕ). x ∷ after) (sym first);
       stands = record { come = come; join = left; small = small-drop size bytes small };
-      room = omega (arith, same, ap length join, length-append front (concat after));
+      space = omega (arith, same, ap length join, length-append front (concat after));
     }
 
 pub has_bytes : (size : ℕ) (rest : Table) (fields : List (List ℕ)) (bytes : List ℕ) → Stands (Bytes size rest) fields bytes → HasFront (take size bytes ∷ []) size rest fields bytes
@@ -81,12 +81,12 @@ both a k t fields bytes b m u first second = record {
   after = second.after;
   split = first.split ∙ ap (λ (xs : List (List ℕ)). a ++ xs) second.split ∙ sym (append_assoc a b second.after);
   stands = subst (λ (xs : List ℕ). Stands u second.after xs) (drop-drop m k bytes) second.stands;
-  room = omega (arith, first.room, second.room, length-drop k bytes);
+  space = omega (arith, first.space, second.space, length-drop k bytes);
 }
 
 -- no fields
 pub nothing : (t : Table) (fields : List (List ℕ)) (bytes : List ℕ) → Stands t fields bytes → HasFront [] 0 t fields bytes
-nothing t fields bytes is = record { after = fields; split = refl; stands = is; room = omega arith }
+nothing t fields bytes is = record { after = fields; split = refl; stands = is; space = omega arith }
 
 -- ---- a front, and the field after it
 

@@ -130,7 +130,7 @@ module _ {a fields : List (List ℕ)} {bytes : List ℕ} where
 
 pub record IsRead (fields : List (List ℕ)) (bytes : List ℕ) : Type 0 where
   pub front : HasFront (fields_of (proof_in bytes)) (answer_place (is_tra bytes) bytes + counted_size 2 id_size (drop (answer_place (is_tra bytes) bytes) bytes)) End fields bytes
-  pub docs_room : docs_place bytes ≤ length bytes
+  pub docs_space : docs_place bytes ≤ length bytes
 
 pub is_read : (fields : List (List ℕ)) (bytes : List ℕ) → Stands proof fields bytes → IsRead fields bytes
 is_read fields bytes is =
@@ -140,7 +140,7 @@ is_read fields bytes is =
     (sym (length-parts slot_size slot_in (terms_in bytes) (drop (slots_place bytes) bytes))) terms.front in
     let dict = then_digests (slots tra (terms_in bytes) 0 0) (then_dict tra (terms_in bytes) begun) in
     let lists = then_lists (then_met tra (present_in (slots_in bytes)) (then_slots tra dict)) in
-    record { front = then_answer (then_documents tra lists); docs_room = lists.room }
+    record { front = then_answer (then_documents tra lists); docs_space = lists.space }
 
 -- ---- bytes that spell a proof spell what is read from them
 
@@ -150,7 +150,7 @@ nothing_after (f ∷ after) come = absurd come.0
 
 pub record IsWhole (bytes : List ℕ) : Type 0 where
   pub is : IsProof bytes (proof_in bytes)
-  pub room : HasSpace bytes
+  pub space : HasSpace bytes
 
 pub documents_whole : (tra : Bool) (bytes : List ℕ) → AreDocumentsOf (proof_in bytes) (documents_in tra bytes)
 documents_whole false bytes = tt
@@ -177,5 +177,5 @@ whole bytes small spelling =
         prefix_each = length-parts prefix_size prefix_in (present_in (slots_in bytes)) (drop (lists_place bytes) bytes);
         documents = documents_whole (is_tra bytes) bytes;
       };
-      room = record { few = spelling.spells.few; docs = read.docs_room; answer = read.front.room };
+      space = record { few = spelling.spells.few; docs = read.docs_space; answer = read.front.space };
     }

@@ -39,9 +39,9 @@ pub(crate) fn digest(bytes: &[u8]) -> [u8; 32]
 pub(crate) fn nth(bytes: &[u8], count: u32, size: usize, i: u32) -> &[u8]
     requires within { i < count }
     requires small { size ≤ 64 }
-    requires room { count * size ≤ length bytes.now }
+    requires space { count * size ≤ length bytes.now }
     ensures part { result.now ≡ drop (size * i) bytes.now }
-    ensures room { size ≤ length result.now }
+    ensures space { size ≤ length result.now }
 {
     let (_, part) = bytes.split_at(size * i as usize);
     part

@@ -24,8 +24,8 @@ pub struct ListCursor<'a> {
     pub(crate) ids: &'a [u8],
     pub(crate) digests: DigestRun<'a>,
     pub ghost few: { at + left < 2 ^ 32 },
-    pub ghost room: { left * 6 ≤ length entries.now },
-    pub ghost ids_room: { met * 4 ≤ length ids.now },
+    pub ghost space: { left * 6 ≤ length entries.now },
+    pub ghost ids_space: { met * 4 ≤ length ids.now },
     pub ghost named: { AreNamed met left entries.now },
 }
 

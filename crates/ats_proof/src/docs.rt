@@ -26,8 +26,8 @@ pub struct DocsView<'a> {
     pub(crate) sections: &'a [u8],
     /// The whole documents section.
     pub(crate) whole: DocsCursor<'a>,
-    pub ghost ids_room: { left * 4 ≤ length ids.now },
-    pub ghost leaves_room: { left * 36 ≤ length leaves.now },
+    pub ghost ids_space: { left * 4 ≤ length ids.now },
+    pub ghost leaves_space: { left * 36 ≤ length leaves.now },
     pub ghost fits: { total_size (section_size present) left sections.now ≤ length sections.now },
     pub ghost rise: { sections_rise present left sections.now },
 }
@@ -40,8 +40,8 @@ pub struct DocView<'a> {
     pub(crate) terms: TermsView<'a>,
     pub(crate) present: u32,
     pub(crate) slots: &'a [u8],
-    pub ghost leaf_room: { 36 ≤ length leaf.now },
-    pub ghost slots_room: { present * 3 ≤ length slots.now },
+    pub ghost leaf_space: { 36 ≤ length leaf.now },
+    pub ghost slots_space: { present * 3 ≤ length slots.now },
 }
 
 impl<'a> DocsView<'a> {
@@ -147,7 +147,7 @@ impl<'a> DocView<'a> {
     /// The slot of a present term, counted among the present terms only.
     pub fn slot(&self, i: u32, steps: &mut Steps) -> Slot
         requires within { i < length (section_of self.now).slots }
-        requires room { steps.old + 1 < 2 ^ 64 }
+        requires space { steps.old + 1 < 2 ^ 64 }
         ensures slot { slice_get (section_of self.now).slots i ≡ Some result }
         ensures cost { steps.new ≡ steps.old + 1 }
     {

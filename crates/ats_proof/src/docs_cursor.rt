@@ -19,8 +19,8 @@ pub struct DocsCursor<'a> {
     pub(crate) ids: &'a [u8],
     pub(crate) leaves: &'a [u8],
     pub(crate) digests: DigestRun<'a>,
-    pub ghost ids_room: { left * 4 ≤ length ids.now },
-    pub ghost leaves_room: { left * 36 ≤ length leaves.now },
+    pub ghost ids_space: { left * 4 ≤ length ids.now },
+    pub ghost leaves_space: { left * 36 ≤ length leaves.now },
     pub ghost rises: { IsStrictlyIncreasing (parts_in id_size id_in left ids.now) },
 }
 

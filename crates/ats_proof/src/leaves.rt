@@ -73,7 +73,7 @@ impl<'a> LeafRun<'a> {
     /// Removes the first leaf left.
     pub(crate) fn pass(&mut self, steps: &mut Steps)
         requires left { 0 < self.old.left }
-        requires room { steps.old + 1 < 2 ^ 64 }
+        requires space { steps.old + 1 < 2 ^ 64 }
         ensures passed { leaves_of self.new ≡ drop 1 (leaves_of self.old) }
         ensures count { self.new.left + 1 ≡ self.old.left }
         ensures rest { self.new.bytes.now ≡ drop (leaf_size self.old.behind self.old.bytes.now) self.old.bytes.now }

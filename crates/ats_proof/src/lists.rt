@@ -24,7 +24,7 @@ pub struct ListView<'a> {
     pub(crate) count: u32,
     pub(crate) entries: &'a [u8],
     pub(crate) digests: DigestRun<'a>,
-    pub ghost room: { count * 6 ≤ length entries.now },
+    pub ghost space: { count * 6 ≤ length entries.now },
 }
 
 impl<'a> ListsView<'a> {
@@ -81,7 +81,7 @@ impl<'a> ListView<'a> {
     /// The entry at a place, whose `doc` holds the document's place among the met ids.
     pub fn entry(&self, i: u32, steps: &mut Steps) -> Entry
         requires within { i < length (list_of self.now).entries }
-        requires room { steps.old + 1 < 2 ^ 64 }
+        requires space { steps.old + 1 < 2 ^ 64 }
         ensures entry { slice_get (list_of self.now).entries i ≡ Some result }
         ensures cost { steps.new ≡ steps.old + 1 }
     {

@@ -45,7 +45,7 @@ impl Packed {
     /// Appends a term, after its length in one byte.
     pub(crate) fn put_term(&mut self, term: &[u8])
         requires short { length term.now ≤ 64 }
-        requires room { length self.old + 65 ≤ 113 }
+        requires space { length self.old + 65 ≤ 113 }
         ensures { self.new ≡ self.old ++ length term.now ∷ term.now }
     {
         self.put(&[term.len() as u8]);

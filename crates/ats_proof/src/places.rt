@@ -44,7 +44,7 @@ fn dict_digests_at(bytes: &[u8]) -> usize
 
 // Where the slots begin, after those digests.
 fn slots_at(bytes: &[u8], dict_digests: usize) -> usize
-    requires room { HasSpace bytes.now }
+    requires space { HasSpace bytes.now }
     requires at { dict_digests ≡ dict_digests_place bytes.now }
     ensures { result ≡ slots_place bytes.now }
 {
@@ -54,7 +54,7 @@ fn slots_at(bytes: &[u8], dict_digests: usize) -> usize
 // Where the terms sections begin, after the digests of the documents.
 fn sections_at(bytes: &[u8], doc_digests: usize) -> usize
     requires few { length bytes.now ≤ 2 ^ 26 }
-    requires room { answer_place true bytes.now ≤ length bytes.now }
+    requires space { answer_place true bytes.now ≤ length bytes.now }
     requires at { doc_digests ≡ doc_digests_place bytes.now }
     ensures { result ≡ sections_place bytes.now }
 {
@@ -97,7 +97,7 @@ impl Ended {
         requires docs { docs ≡ docs_place bytes.now }
         requires met { met ≡ met_in bytes.now }
         requires present { present ≡ present_in (slots_in bytes.now) }
-        requires room { answer_place true bytes.now ≤ length bytes.now }
+        requires space { answer_place true bytes.now ≤ length bytes.now }
         ensures { IsEnded bytes.now true result }
     {
         let doc_digests = docs + met as usize * DOC_LEAF_BYTES;
@@ -111,7 +111,7 @@ impl Ended {
 
     /// The parts after the prefixes.
     pub(crate) fn of(bytes: &[u8], tra: bool, docs: usize, met: u32, present: u32) -> Ended
-        requires room { HasSpace bytes.now }
+        requires space { HasSpace bytes.now }
         requires tra { tra ≡ is_tra bytes.now }
         requires docs { docs ≡ docs_place bytes.now }
         requires met { met ≡ met_in bytes.now }

@@ -18,7 +18,7 @@ use ats_grammar::{ShapeFault, scan};
 fn are_a_proof(bytes: &[u8])
     requires { IsSpelling proof_schema bytes.now }
     ensures proof { IsProof bytes.now (proof_in bytes.now) }
-    ensures room { HasSpace bytes.now }
+    ensures space { HasSpace bytes.now }
 {}
 
 impl<'a> ProofView<'a> {

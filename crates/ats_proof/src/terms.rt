@@ -73,7 +73,7 @@ impl<'a> Revealed<'a> for TermsView<'a> {
 
     fn pass_leaf(&mut self, steps: &mut Steps)
         requires left { 0 < length (leaves_of self.old.leaves) }
-        requires room { steps.old + 1 < 2 ^ 64 }
+        requires space { steps.old + 1 < 2 ^ 64 }
         ensures passed { leaves_of self.new.leaves ≡ drop 1 (leaves_of self.old.leaves) }
         ensures others { digests_of self.new.digests ≡ digests_of self.old.digests }
         ensures terms { terms_of self.new ≡ drop 1 (terms_of self.old) }

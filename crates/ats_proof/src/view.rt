@@ -98,7 +98,7 @@ impl<'a> ProofView<'a> {
     /// The slot of a query term.
     pub fn slot(&self, i: u32, steps: &mut Steps) -> Slot
         requires within { i < length self.now.slots }
-        requires room { steps.old + 1 < 2 ^ 64 }
+        requires space { steps.old + 1 < 2 ^ 64 }
         ensures slot { slice_get self.now.slots i ≡ Some result }
         ensures cost { steps.new ≡ steps.old + 1 }
     {
@@ -116,7 +116,7 @@ impl<'a> ProofView<'a> {
     /// The number of a met document, in its four bytes.
     pub fn met_id(&self, i: u32, steps: &mut Steps) -> &'a [u8]
         requires within { i < length self.now.met }
-        requires room { steps.old + 1 < 2 ^ 64 }
+        requires space { steps.old + 1 < 2 ^ 64 }
         ensures id { slice_get self.now.met i ≡ Some (number result.now) }
         ensures size { length result.now ≡ 4 }
         ensures lent { (bytes : List ℕ) → IsProof bytes self.now
@@ -138,7 +138,7 @@ impl<'a> ProofView<'a> {
     /// The met index of a row.
     pub fn answer(&self, i: u32, steps: &mut Steps) -> u32
         requires within { i < length self.now.answer }
-        requires room { steps.old + 1 < 2 ^ 64 }
+        requires space { steps.old + 1 < 2 ^ 64 }
         ensures row { slice_get self.now.answer i ≡ Some result }
         ensures cost { steps.new ≡ steps.old + 1 }
     {
@@ -179,7 +179,7 @@ impl<'a> ProofView<'a> {
 // One of some slots.
 pub(crate) fn slot_at(bytes: &[u8], count: u32, i: u32) -> Slot
     requires within { i < count }
-    requires room { count * 3 ≤ length bytes.now }
+    requires space { count * 3 ≤ length bytes.now }
     ensures { slice_get (parts_in slot_size slot_in count bytes.now) i ≡ Some result }
 {
     let slot = nth(bytes, count, 3, i);

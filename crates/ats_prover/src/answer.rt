@@ -25,7 +25,7 @@ pub(crate) fn documents(alloc: Global, brackets: &[Bracket]) -> Result<Vec<u32>,
 /// Writes the number of the met documents, then their ids.
 pub(crate) fn write_met(writer: &mut ProofWriter, met: &[u32]) -> Result<(), OutOfMemory>
     requires few { length met.now ≤ 65536 }
-    requires room { writer.old.asked ≤ 2 ^ 60 }
+    requires space { writer.old.asked ≤ 2 ^ 60 }
     ensures fields { OnOk result (writer.new ≡ put writer.old (counted 4 id_fields met.now)) }
     ensures size { OnOk result (writer.new.asked ≤ writer.old.asked + 2 ^ 19) }
 {
@@ -39,7 +39,7 @@ pub(crate) fn write_met(writer: &mut ProofWriter, met: &[u32]) -> Result<(), Out
 /// Writes the number of rows, then the rows of the answer.
 pub(crate) fn write_answer(writer: &mut ProofWriter, picks: &[u32]) -> Result<(), OutOfMemory>
     requires few { length picks.now ≤ 1000 }
-    requires room { writer.old.asked ≤ 2 ^ 60 }
+    requires space { writer.old.asked ≤ 2 ^ 60 }
     ensures fields { OnOk result (writer.new ≡ put writer.old (counted 2 id_fields picks.now)) }
     ensures size { OnOk result (writer.new.asked ≤ writer.old.asked + 2 ^ 12) }
 {

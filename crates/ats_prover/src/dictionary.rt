@@ -49,7 +49,7 @@ fn write_leaves(
     requires dictionary { IsDictionary dictionary.now }
     requires within { All (λ p. p < length dictionary.now + 2) positions.now }
     requires few { length positions.now ≤ 64 }
-    requires room { writer.old.asked ≤ 2 ^ 60 }
+    requires space { writer.old.asked ≤ 2 ^ 60 }
     ensures fields { OnOk result
         (writer.new ≡ put writer.old (counted 2 entry_fields (map (shown_entry dictionary.now) positions.now))) }
     ensures size { OnOk result (writer.new.asked ≤ writer.old.asked + 2 ^ 13) }
@@ -75,7 +75,7 @@ pub(crate) fn write_terms<H: HashKind>(
     requires within { All (λ p. p < length dictionary.now + 2) positions.now }
     requires few { length positions.now ≤ 64 }
     requires terms { length spots.now ≤ 32 }
-    requires room { writer.old.asked ≤ 2 ^ 58 }
+    requires space { writer.old.asked ≤ 2 ^ 58 }
     ensures fields { OnOk result
         (writer.new ≡ put writer.old (counted 2 entry_fields (map (shown_entry dictionary.now) positions.now)
         ++ counted 2 digest_fields (elided_digests H.hash (dict_leaves dictionary.now) positions.now)

@@ -30,7 +30,7 @@ fn write_leaves<H: HashKind>(
     requires within { All (λ doc. doc < length index.now.texts) met.now }
     requires few { length met.now ≤ 65536 }
     requires started { IsStarted writer.old }
-    requires room { writer.old.asked ≤ 2 ^ 60 }
+    requires space { writer.old.asked ≤ 2 ^ 60 }
     ensures fields { OnOk result
         (writer.new ≡ put writer.old (flat_map doc_fields (map (document_leaf H.hash index.now.texts) met.now))) }
     ensures small { OnOk result
@@ -56,7 +56,7 @@ fn write_tree<H: HashKind>(
     requires within { All (λ doc. doc < length index.now.texts) met.now }
     requires few { length met.now ≤ 65536 }
     requires started { IsStarted writer.old }
-    requires room { writer.old.asked ≤ 2 ^ 59 }
+    requires space { writer.old.asked ≤ 2 ^ 59 }
     ensures fields { OnOk result
         (writer.new ≡ put writer.old (flat_map doc_fields (map (document_leaf H.hash index.now.texts) met.now)
         ++ counted 4 digest_fields (elided_digests H.hash (documents_of H.hash index.now.texts) met.now))) }
@@ -86,7 +86,7 @@ fn write_sections<H: HashKind>(
     requires some { 1 ≤ length met.now → 1 ≤ length present.now }
     requires few { length met.now ≤ 65536 }
     requires started { IsStarted writer.old }
-    requires room { writer.old.asked ≤ 2 ^ 57 }
+    requires space { writer.old.asked ≤ 2 ^ 57 }
     ensures written { OnOk result
         (AreSectionsWritten H.hash index.now.texts present.now met.now writer.old writer.new) }
     ensures size { OnOk result (writer.new.asked ≤ writer.old.asked + 2 ^ 39) }
@@ -114,7 +114,7 @@ pub(crate) fn write_documents<H: HashKind>(
     requires some { 1 ≤ length met.now → 1 ≤ length present.now }
     requires few { length met.now ≤ 65536 }
     requires started { IsStarted writer.old }
-    requires room { writer.old.asked ≤ 2 ^ 56 }
+    requires space { writer.old.asked ≤ 2 ^ 56 }
     ensures written { OnOk result
         (AreDocumentsWritten algorithm H.hash index.now.texts present.now met.now writer.old writer.new) }
     ensures size { OnOk result (writer.new.asked ≤ writer.old.asked + 2 ^ 40) }

@@ -34,7 +34,7 @@ fn write_entries(
     requires documents { length met.now ≤ 65536 }
     requires few { length entries.now ≤ 65536 }
     requires impacts { All (λ entry. entry.impact < 2 ^ 16) entries.now }
-    requires room { writer.old.asked ≤ 2 ^ 60 }
+    requires space { writer.old.asked ≤ 2 ^ 60 }
     ensures fields { OnOk result
         (writer.new ≡ put writer.old (counted 4 posting_fields (map (placed met.now) entries.now))) }
     ensures size { OnOk result (writer.new.asked ≤ writer.old.asked + 2 ^ 19) }
@@ -61,7 +61,7 @@ fn write_prefix<H: HashKind>(
     requires kept { (format : Format) × (kept.now ≡ kept_list H.hash format entries.now) }
     requires some { 1 ≤ count }
     requires within { count ≤ length entries.now }
-    requires room { writer.old.asked ≤ 2 ^ 59 }
+    requires space { writer.old.asked ≤ 2 ^ 59 }
     ensures fields { (format : Format) → kept.now ≡ kept_list H.hash format entries.now → OnOk result
         (writer.new ≡ put writer.old (prefix_fields (prefix_of H.hash format met.now entries.now count))) }
     ensures size { OnOk result (writer.new.asked ≤ writer.old.asked + 2 ^ 23) }
@@ -87,7 +87,7 @@ pub(crate) fn write_lists<H: HashKind>(
     requires lists { All (λ lane. IsList 65536 lane.entries) (whole_lanes lanes.now) }
     requires kept { (format : Format) × (map (λ n. n.now) kept.now ≡ list_digests H.hash format (whole_lanes lanes.now)) }
     requires cut { IsCut (whole_lanes lanes.now) cut.now }
-    requires room { writer.old.asked ≤ 2 ^ 58 }
+    requires space { writer.old.asked ≤ 2 ^ 58 }
     ensures fields { (format : Format) → map (λ n. n.now) kept.now ≡ list_digests H.hash format (whole_lanes lanes.now)
         → OnOk result (writer.new ≡ put writer.old (counted 4 id_fields met.now
         ++ flat_map prefix_fields (prefixes H.hash format met.now (whole_lanes lanes.now) cut.now))) }

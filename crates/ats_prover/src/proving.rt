@@ -49,7 +49,7 @@ fn write_cut<H: HashKind>(
     requires cut { IsCut (lanes_of index.now.texts query.now) cut.now }
     requires met { AreMet (shown (lanes_of index.now.texts query.now) cut.now) met.now }
     requires rows { length picks.now ≤ 1000 }
-    requires room { writer.old.asked ≤ 2 ^ 55 }
+    requires space { writer.old.asked ≤ 2 ^ 55 }
     ensures { OnOk result
         (IsCutWritten algorithm H.hash index.now query.now met.now cut.now picks.now writer.old writer.new) }
 {
@@ -82,7 +82,7 @@ fn write_shown<H: HashKind>(
     requires cut { IsCut (lanes_of index.now.texts query.now) cut.now }
     requires met { AreMet (shown (lanes_of index.now.texts query.now) cut.now) met.now }
     requires rows { length picks.now ≤ 1000 }
-    requires room { writer.old.asked ≡ 0 }
+    requires space { writer.old.asked ≡ 0 }
     ensures written { OnOk result
         (IsWritten (IsShownWith H.hash index.now query.now algorithm cut.now met.now picks.now)
         writer.old writer.new) }
@@ -120,7 +120,7 @@ fn write_proof<H: HashKind>(
     top: Top,
     algorithm: Algorithm,
 ) -> Result<(), OutOfMemory>
-    requires room { writer.old.asked ≡ 0 }
+    requires space { writer.old.asked ≡ 0 }
     ensures written { OnOk result
         (IsWritten (IsHonest H.hash index.now query.now top algorithm) writer.old writer.new) }
     ensures short { (proof : Proof) → algorithm ≡ Tnra → IsHonest H.hash index.now query.now top algorithm proof
@@ -162,7 +162,7 @@ fn write_unanswered<H: HashKind>(
     algorithm: Algorithm,
 ) -> Result<(), OutOfMemory>
     requires cut { IsCut (lanes_of index.now.texts query.now) cut.now }
-    requires room { writer.old.asked ≡ 0 }
+    requires space { writer.old.asked ≡ 0 }
     ensures { OnOk result
         (IsWritten (IsCutShown H.hash index.now query.now algorithm cut.now) writer.old writer.new) }
 {

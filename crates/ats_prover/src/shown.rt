@@ -63,7 +63,7 @@ pub(crate) fn write_each_digest(
 ) -> Result<(), OutOfMemory>
     requires started { IsStarted writer.old }
     requires few { length digests.now ≤ 65536 }
-    requires room { writer.old.asked ≤ 2 ^ 61 }
+    requires space { writer.old.asked ≤ 2 ^ 61 }
     ensures fields { OnOk result (writer.new ≡ put writer.old (flat_map digest_fields digests.now)) }
     ensures size { OnOk result (writer.new.asked ≤ writer.old.asked + 2 ^ 21) }
 {
@@ -76,7 +76,7 @@ pub(crate) fn write_each_digest(
 /// Writes the number of digests in 2 bytes, then the digests.
 pub(crate) fn write_digests(writer: &mut ProofWriter, digests: &Digests) -> Result<(), OutOfMemory>
     requires few { length digests.now ≤ 65535 }
-    requires room { writer.old.asked ≤ 2 ^ 60 }
+    requires space { writer.old.asked ≤ 2 ^ 60 }
     ensures fields { OnOk result (writer.new ≡ put writer.old (counted 2 digest_fields digests.now)) }
     ensures size { OnOk result (writer.new.asked ≤ writer.old.asked + 2 ^ 22) }
 {
@@ -112,7 +112,7 @@ pub(crate) fn write_slots(
     requires few { length positions.now ≤ 64 }
     requires terms { length spots.now ≤ 32 }
     requires started { IsStarted writer.old }
-    requires room { writer.old.asked ≤ 2 ^ 60 }
+    requires space { writer.old.asked ≤ 2 ^ 60 }
     ensures fields { OnOk result
         (writer.new ≡ put writer.old (flat_map slot_fields (map (slot_of positions.now) spots.now))) }
     ensures size { OnOk result (writer.new.asked ≤ writer.old.asked + 2 ^ 7) }
@@ -137,7 +137,7 @@ pub(crate) fn write_rest<H: HashKind>(
     requires rise { IsStrictlyIncreasing positions.now }
     requires few { length positions.now ≤ 64 }
     requires terms { length spots.now ≤ 32 }
-    requires room { writer.old.asked ≤ 2 ^ 59 }
+    requires space { writer.old.asked ≤ 2 ^ 59 }
     ensures fields { (leaves : List (List ℕ)) → nodes.now ≡ kept_digests H.hash leaves → OnOk result
         (writer.new ≡ put writer.old (counted 2 digest_fields (elided_digests H.hash leaves positions.now)
         ++ flat_map slot_fields (map (slot_of positions.now) spots.now))) }

@@ -82,7 +82,7 @@ fn write_leaves(
 ) -> Result<(), OutOfMemory>
     requires within { All (λ p. p < length terms.now + 2) positions.now }
     requires few { length positions.now ≤ 64 }
-    requires room { writer.old.asked ≤ 2 ^ 60 }
+    requires space { writer.old.asked ≤ 2 ^ 60 }
     ensures fields { OnOk result
         (writer.new ≡ put writer.old (counted 2 term_fields (map (shown_term terms.now) positions.now))) }
     ensures size { OnOk result (writer.new.asked ≤ writer.old.asked + 2 ^ 13) }
@@ -113,7 +113,7 @@ fn write_shown<H: HashKind>(
     requires within { All (λ p. p < length terms.now + 2) positions.now }
     requires few { length positions.now ≤ 64 }
     requires slots { length spots.now ≤ 32 }
-    requires room { writer.old.asked ≤ 2 ^ 58 }
+    requires space { writer.old.asked ≤ 2 ^ 58 }
     ensures fields { OnOk result
         (writer.new ≡ put writer.old (counted 2 term_fields (map (shown_term terms.now) positions.now)
         ++ counted 2 digest_fields (elided_digests H.hash (terms_leaves terms.now) positions.now)
@@ -137,7 +137,7 @@ pub(crate) fn write_section<H: HashKind>(
 ) -> Result<(), OutOfMemory>
     requires nodes { nodes.now ≡ kept_digests H.hash (terms_leaves terms.now) }
     requires some { 1 ≤ length present.now }
-    requires room { writer.old.asked ≤ 2 ^ 58 }
+    requires space { writer.old.asked ≤ 2 ^ 58 }
     ensures written { OnOk result (IsSectionWritten H.hash terms.now present.now writer.old writer.new) }
     ensures size { OnOk result (writer.new.asked ≤ writer.old.asked + 2 ^ 23) }
 {

@@ -20,5 +20,5 @@ pub record Counted : Type 0 where
 
 -- a report goes on after what it had
 pub record IsLonger (before after : List ℕ) : Type 0 where
-  pub kept : take (length before) after ≡ before
+  pub same : take (length before) after ≡ before
   pub longer : length before < length after

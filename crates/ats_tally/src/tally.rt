@@ -53,7 +53,7 @@ impl Tally {
     pub fn refuse(&mut self, line: &str) -> Result<(), OutOfMemory>
         ensures passed { self.new.passed ≡ self.old.passed }
         ensures reported { OnOk result (IsLonger self.old.report self.new.report) }
-        ensures kept { take (length self.old.report) self.new.report ≡ self.old.report }
+        ensures same { take (length self.old.report) self.new.report ≡ self.old.report }
     {
         self.report.push_str("not understood: ")?;
         self.report.push_str(line)?;

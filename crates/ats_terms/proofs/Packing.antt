@@ -16,8 +16,8 @@ front_range : (bytes more : List ℕ) (start end : ℕ) → start ≤ end → en
     → slice_range (bytes ++ more) start end ≡ slice_range bytes start end
 front_range bytes more start end rises within =
     let first : drop start (bytes ++ more) ≡ drop start bytes ++ more = drop-append-le start bytes more (omega arith) in
-    let room : end - start ≤ length (drop start bytes) = omega (arith, length-drop start bytes) in
-    ap (take (end - start)) first ∙ take-append-le (end - start) (drop start bytes) more room
+    let space : end - start ≤ length (drop start bytes) = omega (arith, length-drop start bytes) in
+    ap (take (end - start)) first ∙ take-append-le (end - start) (drop start bytes) more space
 
 last_range : (bytes more : List ℕ) (start end : ℕ) → start ≡ length bytes → end ≡ length bytes + length more
     → slice_range (bytes ++ more) start end ≡ more

@@ -58,7 +58,7 @@ fn repeats(sorted: &[Key<'_>], i: usize) -> bool
 }
 
 // The number of terms that do not repeat the one before, and the number of their bytes.
-fn room_of(sorted: &[Key<'_>]) -> (usize, usize) {
+fn sizes_of(sorted: &[Key<'_>]) -> (usize, usize) {
     let (mut terms, mut bytes): (usize, usize) = (0, 0);
     for i in 0..sorted.len() {
         if !repeats(sorted, i) {
@@ -76,10 +76,10 @@ fn runs(alloc: Global, sorted: &[Key<'_>]) -> Result<TermCounts, OutOfMemory>
     requires terms { All IsTerm sorted.now }
     ensures { IfOk result (λ made. made ≡ counted sorted.now) }
 {
-    let (room, bytes_room) = room_of(sorted);
-    let mut bytes = Vec::with_capacity(alloc, bytes_room)?;
-    let mut ends = Vec::with_capacity(alloc, room)?;
-    let mut counts: Vec<u32> = Vec::with_capacity(alloc, room)?;
+    let (count, size) = sizes_of(sorted);
+    let mut bytes = Vec::with_capacity(alloc, size)?;
+    let mut ends = Vec::with_capacity(alloc, count)?;
+    let mut counts: Vec<u32> = Vec::with_capacity(alloc, count)?;
     for i in 0..sorted.len() {
         if repeats(sorted, i) {
             let run = counts.len() - 1;

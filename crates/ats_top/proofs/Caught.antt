@@ -1,5 +1,5 @@
 -- If two strings of what was accepted and of an archive collide, each audit of it prints the first two that do.
-use Rattle.std.proofs.Common.{◌≡◌, ◌⊎◌, ◌∙◌, ◌^◌, ℕ, List, Option, None, Some, refl, sym, ap, subst, inl, inr}
+use Rattle.std.proofs.Common.{◌≡◌, ◌⊎◌, ◌∙◌, ℕ, List, Option, None, Some, refl, sym, ap, subst, inl, inr}
 use Rattle.std.specs.Prelude.{IsSome, option_map}
 use Rattle.ats_terms.specs.Query.{IsQueryOf}
 use Rattle.ats_tree.specs.Differences.{Difference}
@@ -21,7 +21,7 @@ use Rattle.ats_consistency.specs.Bytes.{IsAcceptedGrowth}
 use Rattle.ats_growth.proofs.Public as growths
 use Rattle.ats_plan.specs.Files.{Files, IsTold}
 use Rattle.ats_plan.specs.Plan.{Refuses}
-use Rattle.ats_console.specs.Words.{Audit, AuditBoth, AuditFetch, AuditGrowth, Command, command_of}
+use Rattle.ats_console.specs.Words.{Audit, AuditBoth, AuditFetch, AuditGrowth, Command, command_of, Auditor}
 use Rattle.ats_console.specs.Steps.{AsksRanking}
 use Rattle.ats_top.specs.Calling.{MayCall, MayOpen}
 use Rattle.ats_auditors.specs.Collided.{Collides, lines_of_proof_collision, lines_of_growth_collision, lines_of_text_collision}
@@ -88,8 +88,8 @@ module _ (H : List ℕ → List ℕ) (root : List ℕ) (bytes : List ℕ) (archi
   proof_caught r text query proof asks asked accepted =
       let own = subst (λ (other : List ℕ). IsAcceptedBytes H other query r bytes proof) (sym is) accepted in
       caught H (proof_collision H archive query proof) lines_of_proof_collision (AuditsProof H archive r text bytes) (collision-collides H archive query proof) (λ c two said files audits. (
-        Audit (record { index = audits.index; r = r; query = text; proof = audits.proof }),
-        ap command_of audits.says ∙ ap (option_map (λ n. Audit (record { index = audits.index; r = n; query = text; proof = audits.proof }))) audits.number,
+        Auditor (Audit (record { index = audits.index; r = r; query = text; proof = audits.proof })),
+        ap command_of audits.says ∙ ap (option_map (λ n. Auditor (Audit (record { index = audits.index; r = n; query = text; proof = audits.proof })))) audits.number,
         (λ never. never),
         (λ never. never),
         inr (asks.rows, inr (query, asked, inr (inr (audits.has.bytes, audits.has.file, inr (archive, audits.has.spelling, inr (inr (bytes, audits.file, inr (proof, own, inl (c, two, refl))))))))),
@@ -101,8 +101,8 @@ module _ (H : List ℕ → List ℕ) (root : List ℕ) (bytes : List ℕ) (archi
   text_caught doc proof accepted =
       let own = subst (λ (other : List ℕ). IsAcceptedText H other doc bytes proof) (sym is) accepted in
       caught H (text_collision H archive doc proof) lines_of_text_collision (AuditsText H archive doc bytes) (texts.collision-collides H archive doc proof) (λ c two said files audits. (
-        AuditFetch (record { index = audits.index; doc = doc; file = audits.text }),
-        ap command_of audits.says ∙ ap (option_map (λ n. AuditFetch (record { index = audits.index; doc = n; file = audits.text }))) audits.number,
+        Auditor (AuditFetch (record { index = audits.index; doc = doc; file = audits.text })),
+        ap command_of audits.says ∙ ap (option_map (λ n. Auditor (AuditFetch (record { index = audits.index; doc = n; file = audits.text })))) audits.number,
         (λ never. never),
         (λ never. never),
         inr (inr (audits.has.bytes, audits.has.file, inr (archive, audits.has.spelling, inr (inr (bytes, audits.file, inr (proof, own, inl (c, two, refl))))))),
@@ -114,7 +114,7 @@ module _ (H : List ℕ → List ℕ) (root : List ℕ) (bytes : List ℕ) (archi
   both_caught text query proof asked accepted =
       let own = subst (λ (other : List ℕ). AreAcceptedBytes H other query bytes proof) (sym is) accepted in
       caught H (proof_collision H archive query proof) lines_of_proof_collision (AuditsBoth H archive text bytes) (collision-collides H archive query proof) (λ c two said files audits. (
-        AuditBoth (record { index = audits.index; query = text; proof = audits.proof }),
+        Auditor (AuditBoth (record { index = audits.index; query = text; proof = audits.proof })),
         ap command_of audits.says,
         (λ never. never),
         (λ never. never),
@@ -129,7 +129,7 @@ growth_caught H old_root new_root bytes shown accepted older newer is also =
     let own = subst (λ (root : List ℕ). IsAcceptedGrowth H root (root_of H newer) bytes shown) (sym is)
     (subst (λ (root : List ℕ). IsAcceptedGrowth H old_root root bytes shown) (sym also) accepted) in
     caught H (growth.growth_collision H older newer shown) lines_of_growth_collision (AuditsGrowth H older newer bytes) (growths.collision-collides H older newer shown) (λ c two said files audits. (
-      AuditGrowth (record { old = audits.old; new = audits.new; file = audits.growth }),
+      Auditor (AuditGrowth (record { old = audits.old; new = audits.new; file = audits.growth })),
       ap command_of audits.says,
       (λ never. never),
       (λ never. never),

@@ -308,7 +308,7 @@ module _ (H : List ℕ → List ℕ) (said : List (List ℕ)) (before now : Outs
         → CountsFaults before now result
     counts caller door = elim ended.prints [
       | inl told ↦ record {
-        sink = λ other. told.2.kept;
+        sink = λ other. told.2.same;
         sink_once = λ seven. absurd (told.0 seven);
         sink_last = λ seven. absurd (told.0 seven);
         shelf = λ not_shelf not_failed. counts_went result not_shelf (went_so not_failed);

@@ -7,7 +7,7 @@ use Rattle.ats_commit.specs.Root.{root_of}
 use Rattle.ats_honest.specs.Honest.{IsProved}
 use Rattle.ats_client.specs.Bytes.{IsAcceptedBytes}
 use Rattle.ats_accepts.proofs.Public.{proved_accepted, proved_unclashing}
-use Rattle.ats_console.specs.Words.{AuditWords, Audit}
+use Rattle.ats_console.specs.Words.{AuditWords, Audit, Auditor}
 use Rattle.ats_plan.specs.Files.{Files, IsFile}
 use Rattle.ats_console.specs.Read.{HasIndex}
 use Rattle.ats_console.specs.Steps.{IsRowCount}
@@ -22,7 +22,7 @@ bytes_accepted H archive asked rows algorithm bytes proved =
 -- such a proof has no collision with the archive
 pub audit_steps_hold : (H : List ℕ → List ℕ) (archive : Archive) (files : Files) (words : AuditWords) (asked : List (List ℕ × ℕ)) (algorithm : Algorithm) (bytes : List ℕ)
     → HasIndex H files words.index archive → IsRowCount words.r → IsQueryOf words.query asked → IsProved H archive asked words.r algorithm bytes
-    → IsFile files words.proof (2 ^ 26) bytes → StepsHold H files (Audit words)
+    → IsFile files words.proof (2 ^ 26) bytes → StepsHold H files (Auditor (Audit words))
 audit_steps_hold H archive files words asked algorithm bytes index within is_query proved file =
     let proof = proved.proof in
     let accepted = bytes_accepted H archive asked words.r algorithm bytes proved in

@@ -20,13 +20,13 @@ use Rattle.ats_accepts.proofs.Public.{proved_unclashing}
 use Rattle.ats_plan.specs.Files.{Files, IsTold}
 use Rattle.ats_plan.specs.Plan.{Plan, Passes}
 use Rattle.ats_plan.proofs.Public.{one_file, file_short}
-use Rattle.ats_console.specs.Words.{SweepWords, Sweep}
+use Rattle.ats_console.specs.Words.{SweepWords, Sweep, Auditor}
 use Rattle.ats_console.specs.Read.{HasIndex}
 use Rattle.ats_auditors.specs.Listed.{Listed, lines_of, IsListed, IsListOf, IsList, names_of}
 use Rattle.ats_auditors.specs.Gathered.{IsGathered, AreGathered, AreAllThere, size, total}
 use Rattle.ats_auditors.specs.Findings.{Finding, FoundRight, IsFinding, AreFindings, IsHonestLine, is_refused, is_collision}
 use Rattle.ats_console.specs.Steps.{reads_file}
-use Rattle.ats_auditors.specs.Commands.Sweep.{gathers, audits, sweeps}
+use Rattle.ats_auditors.specs.Commands.{gathers, audits, sweeps}
 use Rattle.ats_top.specs.Run.{StepsHold}
 use Rattle.ats_auditors.specs.declared.gathering.Gathered.{Gathered}
 use Rattle.ats_auditors.specs.declared.gathering.Gathered.TheVariants.{Whole, Long}
@@ -53,8 +53,8 @@ module _ (files : Files) (rest : List Gathered → Plan Stop) where
   passes_gathers got (name ∷ names) (proof ∷ more) are within passes =
       let same = append_assoc got (proof ∷ []) more in
       let bytes = ap total same in
-      let room = total_front (got ++ proof ∷ []) more in
-      passes_next got name names proof are.0 (omega (arith, room, bytes, within))
+      let space = total_front (got ++ proof ∷ []) more in
+      passes_next got name names proof are.0 (omega (arith, space, bytes, within))
       (passes_gathers (got ++ proof ∷ []) names more are.1 (omega (arith, bytes, within))
       (subst (λ (all : List Gathered). Passes files (rest all)) (sym same) passes))
 
@@ -215,7 +215,7 @@ module _ (H : List ℕ → List ℕ) (sized : (m : List ℕ) → length (H m) �
       )
 
   pub sweep_steps_hold : (files : Files) (words : SweepWords) (listed : List Listed) → HasIndex H files words.index archive → IsList files words.list listed
-      → AreAllThere files (names_of listed) → All (IsHonestLine H files archive) listed → StepsHold H files (Sweep words)
+      → AreAllThere files (names_of listed) → All (IsHonestLine H files archive) listed → StepsHold H files (Auditor (Sweep words))
   sweep_steps_hold None words listed index list there honest = inr (
     index.bytes,
     index.file,

@@ -10,9 +10,7 @@ use Rattle.ats_console.specs.Words.{AskWords, ServeWords, Command, Ask, Serve}
 use Rattle.ats_top.specs.Outside.{Outside}
 use Rattle.ats_console.specs.Steps.{AsksRanking}
 use Rattle.ats_top.specs.Calling.{MayCall, MayOpen, ReplyDecides}
-use Rattle.ats_top.specs.Commands.{plan_of}
-use Rattle.ats_top.specs.Commands.Ask.{ask_plan}
-use Rattle.ats_top.specs.Commands.Serve.{serve_plan}
+use Rattle.ats_top.specs.Commands.{plan_of, ask_plan, serve_plan}
 use Rattle.ats_top.specs.Inner.Outcome.{HasLine}
 use Rattle.ats_console.specs.Stops.{status_of_stop}
 use Rattle.ats_top.specs.Run.{LinksDone, LinksStop, StepsHold, DoorFailed}

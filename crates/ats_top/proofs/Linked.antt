@@ -24,7 +24,7 @@ module _ (H : List ℕ → List ℕ) (files : Files) (words : ServeWords) (befor
   pub serving_status : (stop : Stop) → ServingStop H files words before now text stop → (status_of_stop stop ≡ 6) ⊎ DoorFailed before now (status_of_stop stop)
   serving_status Link (inl shut) = inr (inl (refl, shut.failed.cause))
   serving_status Link (inr broken) =
-      inr (inl (refl, rw (← broken.served.listened.kept, ← broken.served.had.kept) broken.failed.cause))
+      inr (inl (refl, rw (← broken.served.listened.same, ← broken.served.had.same) broken.failed.cause))
   serving_status (Faults count) (some, all) = inr (inr (refl, broken_rose count some all))
   serving_status Memory unmade = inl refl
   serving_status other stops = absurd stops

@@ -60,7 +60,7 @@ module _ (H : List ℕ → List ℕ) (files : Files) (words : ServeWords) (befor
   opens_if_steps_hold : (now : DoorTold) (sessions : List Session) → HasServed H files words before now sessions → Opens words before now
   opens_if_steps_hold now sessions served = record {
     content = listened_keep words.address sessions words.connections before.content served.opened.content now.content served.listened.content served.had.content served.few;
-    later = omega (arith, served.listened.kept, served.had.kept);
+    later = omega (arith, served.listened.same, served.had.same);
   }
 
   broken_opens : (mid now : DoorTold) (sessions : List Session) → HasServed H files words before mid sessions → length sessions < words.connections
@@ -69,7 +69,7 @@ module _ (H : List ℕ → List ℕ) (files : Files) (words : ServeWords) (befor
     content = accept_keep words.address (length sessions) words.connections before.content mid.content now.content
         (listened_keep words.address sessions (length sessions) before.content served.opened.content mid.content served.listened.content served.had.content (omega arith))
         failed.content fewer;
-    later = omega (arith, served.listened.kept, served.had.kept, failed.later);
+    later = omega (arith, served.listened.same, served.had.same, failed.later);
   }
 
   pub attends_opens : (was now : DoorAndSink) (result : Result ℕ Halt) → was.door ≡ before → Attends H files words was now result → Opens words before now.door

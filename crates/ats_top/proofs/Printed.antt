@@ -2,13 +2,10 @@
 use Rattle.std.proofs.Common.{◌≡◌, ℕ, List, Some, refl}
 use Rattle.ats_plan.specs.Files.{Files}
 use Rattle.ats_plan.proofs.Public.{EndsIn, does_end}
-use Rattle.ats_console.specs.Words.{AskWords, Ask, Both, BothWords, Command, Fetch, FetchWords, Growth, GrowthWords, Verify, VerifyWords, command_of}
+use Rattle.ats_console.specs.Words.{AskWords, Ask, Both, BothWords, Command, Fetch, FetchWords, Growth, GrowthWords, Verify, VerifyWords, command_of, Checker}
 use Rattle.ats_top.specs.Asked.{IsReplyVerified}
 use Rattle.ats_top.specs.Commands.{plan_of}
-use Rattle.ats_checkers.specs.Commands.Both.{IsBothChecked}
-use Rattle.ats_checkers.specs.Commands.Fetch.{IsFetched}
-use Rattle.ats_checkers.specs.Commands.Growth.{IsGrowthChecked}
-use Rattle.ats_checkers.specs.Commands.Verify.{IsVerified}
+use Rattle.ats_checkers.specs.Commands.{IsBothChecked, IsFetched, IsGrowthChecked, IsVerified}
 use Rattle.ats_top.specs.Outside.{Outside}
 use Rattle.ats_top.specs.Run.{IsCompleted, Ran}
 use Rattle.ats_top.specs.Serving.{Took}
@@ -28,22 +25,22 @@ module _ (H : List ℕ → List ℕ) (said : List (List ℕ)) (before now : Outs
       let done = completed command is ran in
       (done.0, does_end P (plan_of H command) before.shelf now.shelf done.0 ends done.1.plan.so, done.2)
 
-  pub verified : (words : VerifyWords) → command_of said ≡ Some (Verify words) → Ran H said before now 0
+  pub verified : (words : VerifyWords) → command_of said ≡ Some (Checker (Verify words)) → Ran H said before now 0
       → (text : List ℕ) × IsVerified H before.shelf.files words text × Took before.sink now.sink text
-  verified words = printed (Verify words) (λ files text. IsVerified H files words text) (λ query. (tt, λ bytes proof files text is. is))
+  verified words = printed (Checker (Verify words)) (λ files text. IsVerified H files words text) (λ query. (tt, λ bytes proof files text is. is))
 
   pub replied : (words : AskWords) → command_of said ≡ Some (Ask words) → Ran H said before now 0
       → (text : List ℕ) × IsReplyVerified H before.caller now.caller words text × Took before.sink now.sink text
   replied words is ran = let done = completed (Ask words) is ran in (done.0, done.1.links, done.2)
 
-  pub fetched : (words : FetchWords) → command_of said ≡ Some (Fetch words) → Ran H said before now 0
+  pub fetched : (words : FetchWords) → command_of said ≡ Some (Checker (Fetch words)) → Ran H said before now 0
       → (text : List ℕ) × IsFetched H before.shelf.files words text × Took before.sink now.sink text
-  fetched words = printed (Fetch words) (λ files text. IsFetched H files words text) (tt, λ bytes proof files text is. is)
+  fetched words = printed (Checker (Fetch words)) (λ files text. IsFetched H files words text) (tt, λ bytes proof files text is. is)
 
-  pub both_checked : (words : BothWords) → command_of said ≡ Some (Both words) → Ran H said before now 0
+  pub both_checked : (words : BothWords) → command_of said ≡ Some (Checker (Both words)) → Ran H said before now 0
       → (text : List ℕ) × IsBothChecked H before.shelf.files words text × Took before.sink now.sink text
-  both_checked words = printed (Both words) (λ files text. IsBothChecked H files words text) (λ query. (tt, λ bytes proof files text is. is))
+  both_checked words = printed (Checker (Both words)) (λ files text. IsBothChecked H files words text) (λ query. (tt, λ bytes proof files text is. is))
 
-  pub growth_checked : (words : GrowthWords) → command_of said ≡ Some (Growth words) → Ran H said before now 0
+  pub growth_checked : (words : GrowthWords) → command_of said ≡ Some (Checker (Growth words)) → Ran H said before now 0
       → (text : List ℕ) × IsGrowthChecked H before.shelf.files words text × Took before.sink now.sink text
-  growth_checked words = printed (Growth words) (λ files text. IsGrowthChecked H files words text) (tt, λ bytes growth files text is. is)
+  growth_checked words = printed (Checker (Growth words)) (λ files text. IsGrowthChecked H files words text) (tt, λ bytes growth files text is. is)

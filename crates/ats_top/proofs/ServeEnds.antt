@@ -9,7 +9,7 @@ use Rattle.ats_plan.specs.Files.{Files}
 use Rattle.ats_plan.specs.Runs.{IsDone, IsStopped}
 use Rattle.ats_plan.proofs.Public.{leads_none, done_end}
 use Rattle.ats_console.specs.Steps.{reads_index, no_more, comes_to}
-use Rattle.ats_top.specs.Commands.Serve.{serve_plan}
+use Rattle.ats_top.specs.Commands.{serve_plan}
 use Rattle.ats_console.specs.Stops.{Done, Unprinted}
 use Rattle.ats_top.specs.Inner.Serving.{DoorAndSink, Attends}
 use Rattle.ats_top.specs.Serving.{Took, FailedToTake}
@@ -26,20 +26,20 @@ use Rattle.ats_top.proofs.Stopped.{stop_ended, stopped_after, link_printed}
 -- the count of the sink did not fall
 pub attends_later : (H : List ℕ → List ℕ) (files : Files) (words : ServeWords) (before now : DoorAndSink) (result : Result ℕ Halt)
     → Attends H files words before now result → before.sink.faults ≤ now.sink.faults
-attends_later H files words before now (Ok faults) (text, took, all) = omega (arith, took.kept)
-attends_later H files words before now (Err Door) (text, took, how) = omega (arith, took.kept)
+attends_later H files words before now (Ok faults) (text, took, all) = omega (arith, took.same)
+attends_later H files words before now (Err Door) (text, took, how) = omega (arith, took.same)
 attends_later H files words before now (Err Sink) (former, last, failed, some) = failed.later
-attends_later H files words before now (Err Memory) (text, took, some) = omega (arith, took.kept)
+attends_later H files words before now (Err Memory) (text, took, some) = omega (arith, took.same)
 
 -- the count of the door's faults is as before, unless the status is that of its fault
 pub attends_door : (H : List ℕ → List ℕ) (files : Files) (words : ServeWords) (before now : DoorAndSink) (outcome : Result ℕ Halt) (after : SinkTold) (result : ℕ)
     → Attends H files words before now outcome → PrintsOutcome now.sink after outcome result → result ≢ 8 → result ≢ 7
     → now.door.faults ≡ before.door.faults
-attends_door H files words before now (Ok faults) after result (text, took, all) prints not_door not_sink = all.served.had.kept ∙ all.served.listened.kept
+attends_door H files words before now (Ok faults) after result (text, took, all) prints not_door not_sink = all.served.had.same ∙ all.served.listened.same
 attends_door H files words before now (Err Door) after result (text, took, how) prints not_door not_sink =
     absurd (link_printed now.sink after result prints not_door not_sink)
-attends_door H files words before now (Err Memory) after result (text, took, unmade) prints not_door not_sink = unmade.served.had.kept ∙ unmade.served.listened.kept
-attends_door H files words before now (Err Sink) after result (former, last, failed, some) prints not_door not_sink = some.served.had.kept ∙ some.served.listened.kept
+attends_door H files words before now (Err Memory) after result (text, took, unmade) prints not_door not_sink = unmade.served.had.same ∙ unmade.served.listened.same
+attends_door H files words before now (Err Sink) after result (former, last, failed, some) prints not_door not_sink = some.served.had.same ∙ some.served.listened.same
 
 module _ (H : List ℕ → List ℕ) (said : List (List ℕ)) (words : ServeWords) (is : command_of said ≡ Some (Serve words)) (caller : CallerTold)
     (shelf later : ShelfTold) where
@@ -65,7 +65,7 @@ module _ (H : List ℕ → List ℕ) (said : List (List ℕ)) (words : ServeWord
     plan_done : (text : List ℕ) → IsDone (serve_plan H words) shelf later text
     plan_done text = (leads_index leads_none loaded).does later text (done_end tt)
 
-    -- there was no memory for the room
+    -- there was no memory for the buffer
     pub roomless : (sink now : SinkTold) (door : DoorTold) (result : ℕ) → PrintsStop sink now stop.Memory result → Ended H said (at shelf sink door) (at later now door) result
     roomless sink now door result prints =
         stop_ended H said (at shelf sink door) (at later now door) stop.Memory result (inr (

@@ -32,7 +32,7 @@ had_then gives sessions more before mid now first second =
           ∙ map_twice (λ (opening : Opening). fold after_session opening more) (λ (opening : Opening). fold after_session opening sessions) before.content
           ∙ ap (λ (f : Opening → Opening). option_map f before.content) (λ i. λ opening. sym (fold-append after_session opening sessions more) i);
       broken = second.broken ∙ ap (λ (n : ℕ). fold broken_after n more) first.broken ∙ sym (fold-append broken_after before.broken sessions more);
-      kept = second.kept ∙ first.kept;
+      same = second.same ∙ first.same;
     }
 
 pub had_none : (gives : Question → Reply → Type 0) (before : DoorTold) → HadSessions gives [] before before
@@ -40,7 +40,7 @@ had_none gives before = record {
   each = All-nil (IsSession gives (is_some before.content));
   content = elim before.content as (λ o. o ≡ option_map (λ (opening : Opening). opening) o) [ None ↦ refl | Some x ↦ refl ];
   broken = refl;
-  kept = refl;
+  same = refl;
 }
 
 -- a link that was accepted, served and given back is a session
@@ -58,7 +58,7 @@ one_had gives came left served before accepted now new is out kept calm back bro
         each = All-cons (IsSession gives (is_some before.content)) session [] held (All-nil (IsSession gives (is_some before.content)));
         content = back ∙ ap (λ (o : Option Opening). option_map (accepted_back left) o) out ∙ map_twice (accepted_back left) accepting_out before.content;
         broken = broken ∙ ap (λ (n : ℕ). counted_broken left.faults n) kept;
-        kept = still ∙ calm;
+        same = still ∙ calm;
       },
     )
 
@@ -92,7 +92,7 @@ faults_then sessions session served same =
 pub took_as : (before now : SinkTold) (bytes text : List ℕ) → bytes ≡ text
     → now.taken ≡ option_map (λ taken. taken ++ bytes) before.taken → now.faults ≡ before.faults → Took before now text
 took_as before now bytes text is all kept =
-    record { all = subst (λ (b : List ℕ). now.taken ≡ option_map (λ taken. taken ++ b) before.taken) is all; kept = kept }
+    record { all = subst (λ (b : List ℕ). now.taken ≡ option_map (λ taken. taken ++ b) before.taken) is all; same = kept }
 
 pub failed_as : (before now : SinkTold) (bytes text : List ℕ) → bytes ≡ text
     → ((n : ℕ) × (n ≤ length bytes) × (now.taken ≡ option_map (λ taken. taken ++ take n bytes) before.taken)) → Rose before.faults now.faults
@@ -108,7 +108,7 @@ took_none before = record {
     | None ↦ refl
     | Some x ↦ ap (λ (y : List ℕ). Some y) (sym (append-nil x))
   ];
-  kept = refl;
+  same = refl;
 }
 
 -- what was taken after all of a text, if the sink reports
@@ -121,7 +121,7 @@ behind (Some x) mid now text more first second =
 pub took_then : (before mid now : SinkTold) (text more : List ℕ) → Took before mid text → Took mid now more → Took before now (text ++ more)
 took_then before mid now text more first second = record {
   all = behind before.taken mid.taken now.taken text more first.all second.all;
-  kept = second.kept ∙ first.kept;
+  same = second.same ∙ first.same;
 }
 
 -- what a sink took before a piece that it failed at is a part of the former text
@@ -132,7 +132,7 @@ failed_then before mid now text former more first second = record {
   within = second.within;
   part = subst (λ (x : List ℕ). now.taken ≡ option_map (λ taken. taken ++ x) before.taken) (sym (append_assoc text former (take second.n more)))
       (behind before.taken mid.taken now.taken text (former ++ take second.n more) first.all second.part);
-  cause = rw (← first.kept) second.cause;
-  later = omega (arith, first.kept, second.later);
+  cause = rw (← first.same) second.cause;
+  later = omega (arith, first.same, second.later);
   last = second.last;
 }

@@ -8,8 +8,7 @@ use Rattle.ats_plan.specs.Runs.{IsDone, IsStopped}
 use Rattle.ats_plan.proofs.Public.{at_memory, stops_memory}
 use Rattle.ats_console.specs.Words.{AskWords, Command, Ask, Serve, command_of}
 use Rattle.ats_top.specs.Outside.{Outside}
-use Rattle.ats_top.specs.Commands.{plan_of}
-use Rattle.ats_top.specs.Commands.Ask.{ask_plan}
+use Rattle.ats_top.specs.Commands.{plan_of, ask_plan}
 use Rattle.ats_top.specs.Asked.{IsReplyVerified}
 use Rattle.ats_top.specs.Inner.Stops.{AskStop}
 use Rattle.ats_top.specs.Serving.{Took, FailedToTake}

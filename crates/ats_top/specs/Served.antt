@@ -15,7 +15,7 @@ use Rattle.ats_console.specs.declared.stops.Stop.TheVariants as stop
 pub record Listened (address : List ℕ) (before now : DoorTold) : Type 0 where
   pub content : now.content ≡ option_map (noting_listen address) before.content
   pub broken : now.broken ≡ before.broken
-  pub kept : now.faults ≡ before.faults
+  pub same : now.faults ≡ before.faults
 
 -- The door did not listen, but may have noted the address.
 pub record FailedToListen (address : List ℕ) (before now : DoorTold) : Type 0 where

@@ -36,7 +36,7 @@ pub record HadSessions (gives : Question → Reply → Type 0) (sessions : List 
   pub each : All (IsSession gives (is_some before.content)) sessions
   pub content : now.content ≡ option_map (λ opening. fold after_session opening sessions) before.content
   pub broken : now.broken ≡ fold broken_after before.broken sessions
-  pub kept : now.faults ≡ before.faults
+  pub same : now.faults ≡ before.faults
 
 -- One call of `accept` failed, and there was no other call on the door.
 pub record FailedToAccept (before now : DoorTold) : Type 0 where
@@ -76,7 +76,7 @@ session_lines sessions = session_lines_from 1 sessions
 -- the sink took the text, if it reports, and did not fail
 pub record Took (before now : SinkTold) (text : List ℕ) : Type 0 where
   pub all : now.taken ≡ option_map (λ taken. taken ++ text) before.taken
-  pub kept : now.faults ≡ before.faults
+  pub same : now.faults ≡ before.faults
 
 -- the sink took the former text, if it reports, and failed after a prefix of this one, once and in its last call
 pub record FailedToTake (before now : SinkTold) (former text : List ℕ) : Type 0 where

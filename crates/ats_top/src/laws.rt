@@ -15,15 +15,13 @@ ghost use Rattle.ats_consistency.specs.Value.{IsGrowth};
 ghost use Rattle.ats_proof.specs.declared.record.Algorithm.{Algorithm};
 ghost use Rattle.ats_index.specs.Spelling.{IsSpelling};
 ghost use Rattle.ats_honest.specs.Honest.{IsProved};
-ghost use Rattle.ats_console.specs.Words.{AskWords, ServeWords, AuditWords, SweepWords, GiveWords, AuditFetchWords, ProveBothWords, AuditBothWords, GrowWords, AuditGrowthWords, Command, Ask, Serve, Audit, Sweep, Give, AuditFetch, ProveBoth, AuditBoth, Grow, AuditGrowth, command_of, number_of, algorithm_of, root_word, root_words, prove_words, migrate_words, verify_words, fetch_words, both_words, growth_words};
+ghost use Rattle.ats_console.specs.Words.{AskWords, ServeWords, AuditWords, SweepWords, GiveWords, AuditFetchWords, ProveBothWords, AuditBothWords, GrowWords, AuditGrowthWords, Command, Ask, Serve, Audit, Sweep, Give, AuditFetch, ProveBoth, AuditBoth, Grow, AuditGrowth, command_of, number_of, algorithm_of, root_word, root_words, prove_words, migrate_words, verify_words, fetch_words, both_words, growth_words, Auditor, Maker};
 ghost use Rattle.ats_plan.specs.Files.{Files, IsFile};
 ghost use Rattle.ats_console.specs.Read.{HasIndex};
 ghost use Rattle.ats_console.specs.Steps.{IsRowCount, AsksRanking};
 ghost use Rattle.ats_plan.specs.Plan.{Refuses, Passes, IsKnown};
 ghost use Rattle.ats_top.specs.Commands.{plan_of};
-ghost use Rattle.ats_makers.specs.Commands.Migrate.{in_blocks};
-ghost use Rattle.ats_makers.specs.Commands.Give.{HasDocument};
-ghost use Rattle.ats_makers.specs.Commands.Grow.{WithdrawsNothing};
+ghost use Rattle.ats_makers.specs.Commands.{in_blocks, HasDocument, WithdrawsNothing};
 ghost use Rattle.ats_console.specs.declared.stops.Stop.{Stop};
 ghost use Rattle.ats_console.specs.declared.stops.Stop.TheVariants.{Shelf as AtShelf};
 ghost use Rattle.ats_console.specs.Stops.{status_of_stop, text_of_stop};
@@ -57,7 +55,7 @@ pub fn audits_accept_honest_proofs<H: HashKind>()
         (asked : List (List ℕ × ℕ)) (algorithm : Algorithm) (bytes : List ℕ)
         → HasIndex H.hash files words.index archive → IsRowCount words.r → IsQueryOf words.query asked
         → IsProved H.hash archive asked words.r algorithm bytes
-        → IsFile files words.proof (2 ^ 26) bytes → StepsHold H.hash files (Audit words) }
+        → IsFile files words.proof (2 ^ 26) bytes → StepsHold H.hash files (Auditor (Audit words)) }
 {}
 
 /// `sweep` serves a list in which each line asks for the honest proof of its query over the archive of the index, by
@@ -66,7 +64,7 @@ pub fn sweeps_accept_honest_proofs<H: HashKind>()
     ensures { (archive : Archive) (files : Files) (words : SweepWords) (listed : List Listed)
         → HasIndex H.hash files words.index archive → IsList files words.list listed
         → AreAllThere files (names_of listed) → All (IsHonestLine H.hash files archive) listed
-        → StepsHold H.hash files (Sweep words) }
+        → StepsHold H.hash files (Auditor (Sweep words)) }
 {}
 
 /// If a file holds the index bytes of an archive, which `build` stores, `root` serves it. TNRA `prove` serves it too,
@@ -98,10 +96,10 @@ pub fn commands_accept_built_indexes<H: HashKind>()
         (asked : List (List ℕ × ℕ)) (algorithm : Algorithm) (honest : List ℕ)
         → IsSpelling H.hash bytes archive → Holds files words.index bytes → IsRowCount words.r
         → IsQueryOf words.query asked → IsProved H.hash archive asked words.r algorithm honest
-        → IsFile files words.proof (2 ^ 26) honest → StepsHold H.hash files (Audit words) }
+        → IsFile files words.proof (2 ^ 26) honest → StepsHold H.hash files (Auditor (Audit words)) }
     ensures give { (archive : Archive) (bytes : List ℕ) (files : Files) (words : GiveWords)
         → IsSpelling H.hash bytes archive → Holds files words.index bytes → HasDocument archive words.doc
-        → StepsHold H.hash files (Give words) }
+        → StepsHold H.hash files (Maker (Give words)) }
 {}
 
 /// If a file gives the text of a document of an archive, as `give` stores it, `fetch` serves it under the word of the
@@ -114,7 +112,7 @@ pub fn commands_accept_given_texts<H: HashKind>()
     ensures audit { (archive : Archive) (bytes : List ℕ) (files : Files) (words : AuditFetchWords)
         → HasIndex H.hash files words.index archive → HasDocument archive words.doc
         → IsTextProof bytes (given_text H.hash archive words.doc) → IsFile files words.file (2 ^ 21) bytes
-        → StepsHold H.hash files (AuditFetch words) }
+        → StepsHold H.hash files (Auditor (AuditFetch words)) }
 {}
 
 /// `prove-both` serves the index of an archive and a query if its proof of all documents with every term has no more bytes
@@ -124,14 +122,14 @@ pub fn commands_accept_made_boths<H: HashKind>()
     ensures prove { (archive : Archive) (asked : List (List ℕ × ℕ)) (bytes : List ℕ) (files : Files) (words : ProveBothWords)
         → HasIndex H.hash files words.index archive → IsQueryOf words.query asked
         → IsBothProof H.hash archive asked bytes → length bytes ≤ 2 ^ 26
-        → StepsHold H.hash files (ProveBoth words) }
+        → StepsHold H.hash files (Maker (ProveBoth words)) }
     ensures both { (archive : Archive) (asked : List (List ℕ × ℕ)) (bytes : List ℕ) (files : Files) (root query name : List ℕ)
         → IsQueryOf query asked → IsBothProof H.hash archive asked bytes → IsFile files name (2 ^ 26) bytes
         → root_word root ≡ Some (root_of H.hash archive) → AreOfCommand (both_words root query name) (StepsHold H.hash files) }
     ensures audit { (archive : Archive) (asked : List (List ℕ × ℕ)) (bytes : List ℕ) (files : Files) (words : AuditBothWords)
         → HasIndex H.hash files words.index archive → IsQueryOf words.query asked
         → IsBothProof H.hash archive asked bytes → IsFile files words.proof (2 ^ 26) bytes
-        → StepsHold H.hash files (AuditBoth words) }
+        → StepsHold H.hash files (Auditor (AuditBoth words)) }
 {}
 
 /// If the texts of an archive are the first of another one's, `grow` serves their indexes. A file that shows this, as `grow`
@@ -140,7 +138,7 @@ pub fn commands_accept_made_boths<H: HashKind>()
 pub fn commands_accept_shown_growths<H: HashKind>()
     ensures grow { (older newer : Archive) (files : Files) (words : GrowWords)
         → HasIndex H.hash files words.old older → HasIndex H.hash files words.new newer → WithdrawsNothing older newer
-        → StepsHold H.hash files (Grow words) }
+        → StepsHold H.hash files (Maker (Grow words)) }
     ensures growth { (older newer : Archive) (bytes : List ℕ) (files : Files) (old new name : List ℕ)
         → AreTexts older.texts → AreTexts newer.texts → WithdrawsNothing older newer
         → IsGrowth bytes (honest H.hash older newer) → IsFile files name 4096 bytes
@@ -149,7 +147,7 @@ pub fn commands_accept_shown_growths<H: HashKind>()
     ensures audit { (older newer : Archive) (bytes : List ℕ) (files : Files) (words : AuditGrowthWords)
         → HasIndex H.hash files words.old older → HasIndex H.hash files words.new newer → WithdrawsNothing older newer
         → IsGrowth bytes (honest H.hash older newer) → IsFile files words.file 4096 bytes
-        → StepsHold H.hash files (AuditGrowth words) }
+        → StepsHold H.hash files (Auditor (AuditGrowth words)) }
 {}
 
 /// An index in which lists stand in blocks has the same bytes if it is migrated again.

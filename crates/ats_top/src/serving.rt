@@ -61,7 +61,7 @@ fn session_line(alloc: Global, number: u32, served: Served) -> Result<String, Al
 fn serve_link<H: Hash32, D: Door>(
     alloc: Global,
     index: &Index<H>,
-    room: &mut FrameBuffer,
+    buffer: &mut FrameBuffer,
     door: &mut D,
 ) -> Result<Served, Failed>
     requires { (D.told door.old).is_open ≡ true }
@@ -72,7 +72,7 @@ fn serve_link<H: Hash32, D: Door>(
 {
     let mut link = door.accept()?;
     let mut answerer = IndexAnswerer { index };
-    let served = serve_connection(alloc, &mut link, &mut answerer, room);
+    let served = serve_connection(alloc, &mut link, &mut answerer, buffer);
     door.give_back(link);
     Ok(served)
 }
@@ -98,7 +98,7 @@ pub(crate) fn serve_links<H: Hash32, K: Sink, D: Door>(
     alloc: Global,
     index: &Index<H>,
     connections: u32,
-    room: &mut FrameBuffer,
+    buffer: &mut FrameBuffer,
     out: &mut K,
     door: &mut D,
 ) -> Result<u32, Halt>
@@ -109,7 +109,7 @@ pub(crate) fn serve_links<H: Hash32, K: Sink, D: Door>(
 {
     let mut faults: u32 = 0;
     for before in 0..connections {
-        let Ok(served) = serve_link(alloc, index, room, door) else {
+        let Ok(served) = serve_link(alloc, index, buffer, door) else {
             return Err(Halt::Door);
         };
         if is_fault(served.end) {
@@ -131,7 +131,7 @@ pub(crate) fn attend<H: Hash32, K: Sink, D: Door>(
     index: &Index<H>,
     connections: u32,
     address: &str,
-    room: &mut FrameBuffer,
+    buffer: &mut FrameBuffer,
     out: &mut K,
     door: &mut D,
 ) -> Result<u32, Halt>
@@ -146,7 +146,7 @@ pub(crate) fn attend<H: Hash32, K: Sink, D: Door>(
     if write_all(out, LISTENING.as_bytes()).is_err() {
         return Err(Halt::Sink);
     }
-    serve_links(alloc, index, connections, room, out, door)
+    serve_links(alloc, index, connections, buffer, out, door)
 }
 
 // Prints the line of a stop, if there is one, and returns the status.
@@ -194,11 +194,11 @@ pub(crate) fn serve<H: Hash32 + Sync, R: Threads + Sync, S: Shelf, K: Sink, D: D
         Ok(loaded) => loaded,
         Err(stop) => return print_stop(alloc, out, stop),
     };
-    let Ok(mut room) = FrameBuffer::new(alloc) else {
+    let Ok(mut buffer) = FrameBuffer::new(alloc) else {
         drop(loaded);
         return print_stop(alloc, out, Stop::Memory);
     };
-    let outcome = attend(alloc, &loaded, connections, address, &mut room, out, door);
+    let outcome = attend(alloc, &loaded, connections, address, &mut buffer, out, door);
     drop(loaded);
     print_outcome(alloc, out, outcome)
 }

@@ -18,10 +18,7 @@ ghost use Rattle.ats_console.specs.Words.{algorithm_of, number_of, root_word, ve
 ghost use Rattle.ats_console.specs.Print.{lines, lines_of_documents};
 ghost use Rattle.ats_top.specs.Asked.{IsReplyVerified};
 ghost use Rattle.ats_auditors.specs.Collided.{lines_of_proof_collision, lines_of_growth_collision, lines_of_text_collision};
-ghost use Rattle.ats_checkers.specs.Commands.Both.{IsBothChecked};
-ghost use Rattle.ats_checkers.specs.Commands.Fetch.{IsFetched};
-ghost use Rattle.ats_checkers.specs.Commands.Growth.{IsGrowthChecked};
-ghost use Rattle.ats_checkers.specs.Commands.Verify.{IsVerified};
+ghost use Rattle.ats_checkers.specs.Commands.{IsBothChecked, IsFetched, IsGrowthChecked, IsVerified};
 ghost use Rattle.ats_top.specs.Conversation.{Converses};
 ghost use Rattle.ats_console.specs.Kinds.{line_of_grown, printed_text};
 ghost use Rattle.ats_top.specs.Outside.{Outside};

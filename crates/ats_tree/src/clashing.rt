@@ -51,7 +51,7 @@ pub fn first_clash<'a, H: Hash32, R: Revealed<'a>, S: LeafPreimage<'a>, O: OwnNo
 ) -> Option<Clash<S>>
     requires rebuilds { IsSome (rebuilt H.hash n (R.shown revealed.old) (R.digests revealed.old)) }
     requires fit { All (λ s. S.fits s.1) (R.shown revealed.old) }
-    requires room { steps.old ≤ 2 ^ 63 }
+    requires space { steps.old ≤ 2 ^ 63 }
     ensures clash { option_map (difference_of S.bytes) result
         ≡ first_collision H.hash (O.ours own.now)
         (node_strings H.hash n (R.shown revealed.old) (R.digests revealed.old)) }
@@ -76,7 +76,7 @@ pub fn first_clash_in_part<'a, H: Hash32, R: Revealed<'a>, S: LeafPreimage<'a>, 
     requires rising { RisesFrom from (R.shown revealed.old) }
     requires enough { need (tree_of (places from n (R.shown revealed.old))) ≤ length (R.digests revealed.old) }
     requires fit { All (λ s. S.fits s.1) (R.shown revealed.old) }
-    requires room { steps.old + 5 * n < 2 ^ 64 }
+    requires space { steps.old + 5 * n < 2 ^ 64 }
     ensures whole { IsPart H.hash from n (R.shown revealed.old) (R.digests revealed.old)
         result.digest (R.shown revealed.new) (R.digests revealed.new) }
     ensures clash { option_map (difference_of S.bytes) result.clash ≡ first_collision H.hash (O.ours own.now)
@@ -112,10 +112,10 @@ fn part<H: Hash32, F: LeafFeed<S>, S: Preimage, O: OwnNodes<S>>(
     requires rising { RisesFrom from (F.leaves feed.old) }
     requires enough { need (tree_of (places from n (F.leaves feed.old))) ≤ length (F.others feed.old) }
     requires fit { All (λ s. S.fits s.1) (F.leaves feed.old) }
-    requires room { steps.old + 5 * n < 2 ^ 64 }
+    requires space { steps.old + 5 * n < 2 ^ 64 }
     ensures whole { IsPart H.hash from n (F.leaves feed.old) (F.others feed.old)
         result.digest (F.leaves feed.new) (F.others feed.new) }
-    ensures still { F.kept feed.old feed.new }
+    ensures still { F.stays feed.old feed.new }
     ensures clash { option_map (difference_of S.bytes) result.clash ≡ first_collision H.hash (O.ours own.now)
         (part_strings H.hash (path_of depth turns) (tree_of (places from n (F.leaves feed.old))) (F.others feed.old)) }
     ensures place { IfSome result.clash (λ c. c.turns < 2 ^ c.depth) }
@@ -174,7 +174,7 @@ fn clash_or<H: Hash32, S: Preimage, O: OwnNodes<S>>(
     requires inside { turns < 2 ^ depth }
     requires digest { digest.now ≡ H.hash (S.bytes theirs) }
     requires places { IfSome later (λ c. c.turns < 2 ^ c.depth) }
-    requires room { steps.old + 1 < 2 ^ 64 }
+    requires space { steps.old + 1 < 2 ^ 64 }
     ensures clash { option_map (difference_of S.bytes) result
         ≡ collision_or H.hash (O.ours own.now (by_path (path_of depth turns)))
         (record { place = by_path (path_of depth turns); text = S.bytes theirs }) (option_map (difference_of S.bytes) later) }
@@ -202,7 +202,7 @@ pub fn collides<H: Hash32, S: Preimage>(
 ) -> bool
     requires tagged { 0 < length (S.bytes ours.now) }
     requires digest { digest.now ≡ H.hash (S.bytes theirs.now) }
-    requires room { steps.old + 1 < 2 ^ 64 }
+    requires space { steps.old + 1 < 2 ^ 64 }
     ensures collides { IsTrue result
         ↔ ((S.bytes ours.now ≢ S.bytes theirs.now) × (H.hash (S.bytes ours.now) ≡ H.hash (S.bytes theirs.now))) }
     ensures cost { steps.new ≤ steps.old + 1 }

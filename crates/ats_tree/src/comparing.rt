@@ -31,7 +31,7 @@ pub(crate) fn begins_with_part<L: ShortLeaves, S: ShownTree>(
     requires ends { from + n < 2 ^ 32 }
     requires rising { RisesFrom from (S.shown shown.old) }
     requires short { All (λ s. length s.1 ≤ 127) (S.shown shown.old) }
-    requires room { steps.old + n < 2 ^ 64 }
+    requires space { steps.old + n < 2 ^ 64 }
     ensures exact { IsTrue result
         ↔ IsOwnPart (L.items leaves.now) digests.now from n (S.shown shown.old) (S.digests shown.old) }
     ensures leaves_left { IsTrue result → S.shown shown.new ≡ shown_from (from + n) (S.shown shown.old) }
@@ -70,7 +70,7 @@ pub fn begins_with_elided<S: ShownTree>(
     requires rising { IsStrictlyIncreasing positions.now }
     requires below { All (λ p. 2 * p + 1 ≤ length digests.now) positions.now }
     requires theirs { All (λ d. length d ≡ 32) (S.digests shown.old) }
-    requires room { steps.old + length digests.now < 2 ^ 64 }
+    requires space { steps.old + length digests.now < 2 ^ 64 }
     ensures exact { (H : List ℕ → List ℕ) (leaves : List (List ℕ)) → digests.now ≡ kept_digests H leaves
         → IsTrue result ↔ take (length (elided_digests H leaves positions.now)) (S.digests shown.old)
         ≡ elided_digests H leaves positions.now }
@@ -99,7 +99,7 @@ fn begins_with_elided_part<S: ShownTree>(
     requires ends { from + n < 2 ^ 32 }
     requires rising { RisesWithin from (from + n) positions.now }
     requires theirs { All (λ d. length d ≡ 32) (S.digests shown.old) }
-    requires room { steps.old + n < 2 ^ 64 }
+    requires space { steps.old + n < 2 ^ 64 }
     ensures exact { IsTrue result ↔ take (length (elided_part digests.now from n (shown_with [] positions.now)))
         (S.digests shown.old) ≡ elided_part digests.now from n (shown_with [] positions.now) }
     ensures left { IsTrue result → S.digests shown.new

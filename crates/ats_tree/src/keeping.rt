@@ -49,7 +49,7 @@ impl Nodes {
     ) -> Result<Nodes, OutOfMemory>
         requires some { 1 ≤ length (L.items leaves.now) }
         requires few { length (L.items leaves.now) ≤ 2 ^ 31 }
-        requires room { steps.old ≤ 2 ^ 63 }
+        requires space { steps.old ≤ 2 ^ 63 }
         ensures value { IfOk result (λ nodes. nodes ≡ kept_digests H.hash (L.items leaves.now)) }
         ensures cost { steps.new ≤ steps.old + 2 * length (L.items leaves.now) }
     {
@@ -118,7 +118,7 @@ impl Nodes {
     ) -> bool
         requires kept { self.now ≡ kept_digests H.hash (L.items leaves.now) }
         requires short { All (λ s. length s.1 ≤ 127) (S.shown shown.old) }
-        requires room { steps.old ≤ 2 ^ 63 }
+        requires space { steps.old ≤ 2 ^ 63 }
         ensures exact { IsTrue result
             ↔ IsOwnShown H.hash (L.items leaves.now) n (S.shown shown.old) (S.digests shown.old) }
         ensures cost { steps.new ≤ steps.old + n + 1 }
@@ -173,7 +173,7 @@ pub fn keep_part<H: Hash32, L: Leaves>(
     requires within { from + n ≤ length (L.items leaves.now) }
     requires ends { from + n < 2 ^ 32 }
     requires nodes { length digests.old + 1 ≡ 2 * n }
-    requires room { steps.old + 2 * n ≤ 2 ^ 64 }
+    requires space { steps.old + 2 * n ≤ 2 ^ 64 }
     ensures kept { digests.new ≡ kept_digests H.hash (take n (drop from (L.items leaves.now))) }
     ensures cost { steps.new + 1 ≡ steps.old + 2 * n }
 {

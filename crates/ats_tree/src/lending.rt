@@ -19,7 +19,7 @@ pub(crate) trait Feed {
     ghost others: { Self → List (List ℕ) };
 
     /// It still takes from the same place.
-    ghost kept: { Self → Self → Type 0 };
+    ghost stays: { Self → Self → Type 0 };
 
     /// The position of the first leaf left.
     fn first_position(&self) -> Option<u32>
@@ -29,24 +29,24 @@ pub(crate) trait Feed {
     /// Removes the first leaf left, and returns its digest.
     fn take_leaf<H: Hash32>(&mut self, steps: &mut Steps) -> [u8; 32]
         requires left { 0 < length (leaves self.old) }
-        requires room { steps.old + 2 < 2 ^ 64 }
+        requires space { steps.old + 2 < 2 ^ 64 }
         ensures value { result ≡ H.hash (0 ∷ first_leaf (leaves self.old)) }
         ensures passed { leaves self.new ≡ drop 1 (leaves self.old) }
         ensures same { others self.new ≡ others self.old }
-        ensures still { kept self.old self.new }
+        ensures still { stays self.old self.new }
         ensures cost { steps.new ≡ steps.old + 2 };
 
     /// Removes and returns the first digest left, if there is one.
     fn take_digest(&mut self, steps: &mut Steps) -> Option<[u8; 32]>
         requires sized { All (λ d. length d ≡ 32) (others self.old) }
-        requires room { steps.old + 1 < 2 ^ 64 }
+        requires space { steps.old + 1 < 2 ^ 64 }
         ensures first { result ≡ slice_get (others self.old) 0 }
         ensures passed { others self.new ≡ drop 1 (others self.old) }
         ensures same { leaves self.new ≡ leaves self.old }
-        ensures still { kept self.old self.new }
+        ensures still { stays self.old self.new }
         ensures cost { steps.new ≡ steps.old + 1 };
 
-    ghost kept_twice: { (x y z : Self) → kept x y → kept y z → kept x z };
+    ghost stays_twice: { (x y z : Self) → stays x y → stays y z → stays x z };
 }
 
 /// A source whose first leaf is seen as a string.
@@ -69,9 +69,9 @@ impl<'a, R: Revealed<'a>> Feed for Lent<'a, '_, R> {
 
     ghost others = { λ s. R.digests s.revealed.now };
 
-    ghost kept = { λ s t. t.revealed.ghost_name ≡ s.revealed.ghost_name };
+    ghost stays = { λ s t. t.revealed.ghost_name ≡ s.revealed.ghost_name };
 
-    ghost kept_twice = { λ x y z p q. q ∙ p };
+    ghost stays_twice = { λ x y z p q. q ∙ p };
 
     fn first_position(&self) -> Option<u32> {
         self.revealed.position()

@@ -23,7 +23,7 @@ pub trait Preimage: Copy {
     /// The digest. It is one step.
     fn digest<H: Hash32>(&self, steps: &mut Steps) -> [u8; 32]
         requires tagged { 0 < length (bytes self.now) }
-        requires room { steps.old + 1 < 2 ^ 64 }
+        requires space { steps.old + 1 < 2 ^ 64 }
         ensures value { result ≡ H.hash (bytes self.now) }
         ensures cost { steps.new ≡ steps.old + 1 };
 }

@@ -38,7 +38,7 @@ pub trait Revealed<'a> {
     /// Removes the first leaf left. It is one step.
     fn pass_leaf(&mut self, steps: &mut Steps)
         requires left { 0 < length (shown self.old) }
-        requires room { steps.old + 1 < 2 ^ 64 }
+        requires space { steps.old + 1 < 2 ^ 64 }
         ensures passed { shown self.new ≡ drop 1 (shown self.old) }
         ensures others { digests self.new ≡ digests self.old }
         ensures cost { steps.new ≡ steps.old + 1 };

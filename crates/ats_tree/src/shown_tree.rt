@@ -26,7 +26,7 @@ pub trait ShownTree {
     fn take_leaf(&mut self, steps: &mut Steps) -> HashedString
         requires left { 0 < length (shown self.old) }
         requires short { length (first_leaf (shown self.old)) ≤ 127 }
-        requires room { steps.old + 1 < 2 ^ 64 }
+        requires space { steps.old + 1 < 2 ^ 64 }
         ensures string { result ≡ 0 ∷ first_leaf (shown self.old) }
         ensures passed { shown self.new ≡ drop 1 (shown self.old) }
         ensures others { digests self.new ≡ digests self.old }
@@ -35,7 +35,7 @@ pub trait ShownTree {
     /// Removes and returns the first digest left, `None` if none is left.
     fn take_digest(&mut self, steps: &mut Steps) -> Option<[u8; 32]>
         requires sized { All (λ d. length d ≡ 32) (digests self.old) }
-        requires room { steps.old + 1 < 2 ^ 64 }
+        requires space { steps.old + 1 < 2 ^ 64 }
         ensures first { result ≡ slice_get (digests self.old) 0 }
         ensures passed { digests self.new ≡ drop 1 (digests self.old) }
         ensures others { shown self.new ≡ shown self.old }

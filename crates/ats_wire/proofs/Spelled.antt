@@ -21,13 +21,13 @@ pub is_spelled : (body : List ℕ) (algorithm : Algorithm) (rows long : ℕ)
     → get_or body 0 0 ≡ 1 → get_or body 1 0 ≡ algorithm_byte algorithm
     → rows ≡ big_number 2 (drop 2 body) → long ≡ big_number 2 (drop 4 body) → long ≡ length body - 6
     → body ≡ request_body algorithm rows (drop 6 body)
-is_spelled [] algorithm rows long room small version which is_rows is_long fits = absurd (omega arith)
-is_spelled (a ∷ []) algorithm rows long room small version which is_rows is_long fits = absurd (omega arith)
-is_spelled (a ∷ b ∷ []) algorithm rows long room small version which is_rows is_long fits = absurd (omega arith)
-is_spelled (a ∷ b ∷ c ∷ []) algorithm rows long room small version which is_rows is_long fits = absurd (omega arith)
-is_spelled (a ∷ b ∷ c ∷ d ∷ []) algorithm rows long room small version which is_rows is_long fits = absurd (omega arith)
-is_spelled (a ∷ b ∷ c ∷ d ∷ e ∷ []) algorithm rows long room small version which is_rows is_long fits = absurd (omega arith)
-is_spelled (a ∷ b ∷ c ∷ d ∷ e ∷ f ∷ query) algorithm rows long room small version which is_rows is_long fits =
+is_spelled [] algorithm rows long space small version which is_rows is_long fits = absurd (omega arith)
+is_spelled (a ∷ []) algorithm rows long space small version which is_rows is_long fits = absurd (omega arith)
+is_spelled (a ∷ b ∷ []) algorithm rows long space small version which is_rows is_long fits = absurd (omega arith)
+is_spelled (a ∷ b ∷ c ∷ []) algorithm rows long space small version which is_rows is_long fits = absurd (omega arith)
+is_spelled (a ∷ b ∷ c ∷ d ∷ []) algorithm rows long space small version which is_rows is_long fits = absurd (omega arith)
+is_spelled (a ∷ b ∷ c ∷ d ∷ e ∷ []) algorithm rows long space small version which is_rows is_long fits = absurd (omega arith)
+is_spelled (a ∷ b ∷ c ∷ d ∷ e ∷ f ∷ query) algorithm rows long space small version which is_rows is_long fits =
     let rows_bytes : to_be_bytes w16 rows ≡ c ∷ d ∷ [] = ap (to_be_bytes w16) is_rows ∙ pair c d (e ∷ f ∷ query) (small 2) (small 3) in
     let same_long : length query ≡ big_number 2 (e ∷ f ∷ query) = sym (sym is_long ∙ fits ∙ omega arith) in
     let long_bytes : to_be_bytes w16 (length query) ≡ e ∷ f ∷ [] = ap (to_be_bytes w16) same_long ∙ pair e f query (small 4) (small 5) in

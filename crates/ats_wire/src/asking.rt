@@ -124,16 +124,16 @@ pub(crate) fn read_piece<L: Link>(
     size: u32,
 ) -> Result<usize, AskFault>
     requires some { done < size }
-    requires room { 1 ≤ length piece.old }
+    requires space { 1 ≤ length piece.old }
     ensures ok { IfOk result (λ n. (1 ≤ n) × (n ≤ length piece.new) × (done + n ≤ size)
         × Moves (L.told link.old) (L.told link.new) (take n piece.new) [] 0 false) }
     ensures err { IfErr result (λ fault. (came : List ℕ) × Moves (L.told link.old) (L.told link.new) came [] 1 (breaks_link fault)
         × ((front : List ℕ) → length front ≡ done
         → RestFault (L.told link.new) size (front ++ came) fault)) }
 {
-    let room = (size as usize - done).min(piece.len());
-    match fill(link, &mut piece[..room]) {
-        Filling::Whole => Ok(room),
+    let count = (size as usize - done).min(piece.len());
+    match fill(link, &mut piece[..count]) {
+        Filling::Whole => Ok(count),
         Filling::Ended(came) => Err(AskFault::ShortReply {
             got: (done + came) as u64 + HEAD,
             wanted: u64::from(size) + HEAD,
@@ -152,8 +152,8 @@ pub(crate) fn read_rest<L: Link>(alloc: Global, link: &mut L, size: u32) -> Resu
     let mut bytes = Bytes::new(alloc);
     let mut piece = [0; PIECE];
     'pieces: while bytes.len() < size as usize {
-        let room = read_piece(link, &mut piece, bytes.len(), size)?;
-        if bytes.extend(&piece[..room]).is_err() {
+        let count = read_piece(link, &mut piece, bytes.len(), size)?;
+        if bytes.extend(&piece[..count]).is_err() {
             return Err(AskFault::OutOfMemory);
         }
     }

@@ -54,15 +54,15 @@ fn read_proof<L: Link>(alloc: Global, link: &mut L, size: u32) -> Result<Fed, As
     let mut bytes = Bytes::new(alloc);
     let mut piece = [0; PIECE];
     'pieces: while bytes.len() < size as usize {
-        let room = read_piece(link, &mut piece, bytes.len(), size)?;
-        if let Err(fault) = feeder.feed(&piece[..room]) {
-            let read = (bytes.len() + room) as u32;
+        let count = read_piece(link, &mut piece, bytes.len(), size)?;
+        if let Err(fault) = feeder.feed(&piece[..count]) {
+            let read = (bytes.len() + count) as u32;
             return match pass_rest(link, size, read) {
                 Ok(()) => Ok(Fed::Refused(fault)),
                 Err(fault) => Err(fault),
             };
         }
-        if bytes.extend(&piece[..room]).is_err() {
+        if bytes.extend(&piece[..count]).is_err() {
             return Err(AskFault::OutOfMemory);
         }
     }

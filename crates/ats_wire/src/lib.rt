@@ -17,8 +17,8 @@
 //! // link: to a server
 //! let bytes = ask_once(alloc, &mut link, Algorithm::Tnra, Top::new(1)?, "red hen")?;
 //! // link: to a client; answerer: whoever makes the proofs, by a type that is `Answerer`
-//! let mut room = FrameBuffer::new(alloc)?;
-//! let served = serve_connection(alloc, &mut link, &mut answerer, &mut room);
+//! let mut buffer = FrameBuffer::new(alloc)?;
+//! let served = serve_connection(alloc, &mut link, &mut answerer, &mut buffer);
 //! let requests = served.requests; // 1, of a client that asks once
 //! ```
 #![tactic(auto)]

@@ -29,6 +29,6 @@ pub trait Answerer {
           query = request.now.query.now;
         }) result }
         ensures short { IsShort result }
-        ensures kept { (question : Question) (reply : Reply)
+        ensures still { (question : Question) (reply : Reply)
             → (gives self.new question reply ↔ gives self.old question reply) };
 }

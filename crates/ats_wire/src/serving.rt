@@ -44,11 +44,11 @@ pub struct Served {
     pub end: ConnectionEnd,
 }
 
-// Reads a frame's body to the front of the room, and returns its length.
-fn read_frame<L: Link>(link: &mut L, room: &mut [u8]) -> Result<usize, ConnectionEnd>
-    requires { length room.old ≡ 4096 }
+// Reads a frame's body to the front of the buffer, and returns its length.
+fn read_frame<L: Link>(link: &mut L, buffer: &mut [u8]) -> Result<usize, ConnectionEnd>
+    requires { length buffer.old ≡ 4096 }
     ensures frame { IfOk result (λ n. IsFrameLength n
-        × Moves (L.told link.old) (L.told link.new) (framed (take n room.new)) [] 0 false) }
+        × Moves (L.told link.old) (L.told link.new) (framed (take n buffer.new)) [] 0 false) }
     ensures end { IfErr result (λ end. (tail : List ℕ)
         × Moves (L.told link.old) (L.told link.new) tail [] 1 (is_fault end)
         × EndsReading (L.told link.new) tail end) }
@@ -64,7 +64,7 @@ fn read_frame<L: Link>(link: &mut L, room: &mut [u8]) -> Result<usize, Connectio
     if length < MIN_FRAME || length as usize > MAX_FRAME {
         return Err(ConnectionEnd::BadFrame { length });
     }
-    match fill(link, &mut room[..length as usize]) {
+    match fill(link, &mut buffer[..length as usize]) {
         Filling::Whole => Ok(length as usize),
         Filling::Ended(came) => Err(ConnectionEnd::CutFrame {
             left: came as u32 + 4,
@@ -78,7 +78,7 @@ fn reply_to<A: Answerer>(alloc: Global, answerer: &mut A, body: &[u8]) -> Reply
     requires { IsFrameLength (length body.now) }
     ensures answers { Answers (A.gives answerer.old) body.now result }
     ensures short { IsShort result }
-    ensures kept { (question : Question) (reply : Reply)
+    ensures still { (question : Question) (reply : Reply)
         → (A.gives answerer.new question reply ↔ A.gives answerer.old question reply) }
 {
     match Request::read(body) {
@@ -87,25 +87,25 @@ fn reply_to<A: Answerer>(alloc: Global, answerer: &mut A, body: &[u8]) -> Reply
     }
 }
 
-// Answers the frame whose body is at the front of the room.
+// Answers the frame whose body is at the front of the buffer.
 fn answer_frame<L: Link, A: Answerer>(
     alloc: Global,
     link: &mut L,
     answerer: &mut A,
-    room: &mut [u8],
+    buffer: &mut [u8],
     size: usize,
 ) -> Result<(), Failed>
-    requires room { length room.old ≡ 4096 }
+    requires whole { length buffer.old ≡ 4096 }
     requires frame { IsFrameLength size }
     ensures all { OnOk result
-        (IsReplied (A.gives answerer.old) (L.told link.old) (L.told link.new) (take size room.old)) }
+        (IsReplied (A.gives answerer.old) (L.told link.old) (L.told link.new) (take size buffer.old)) }
     ensures part { OnErr result
-        (IsCutReply (A.gives answerer.old) (L.told link.old) (L.told link.new) (take size room.old)) }
-    ensures kept { (question : Question) (reply : Reply)
+        (IsCutReply (A.gives answerer.old) (L.told link.old) (L.told link.new) (take size buffer.old)) }
+    ensures still { (question : Question) (reply : Reply)
         → (A.gives answerer.new question reply ↔ A.gives answerer.old question reply) }
 {
-    let reply = reply_to(alloc, answerer, &room[..size]);
-    send_reply(link, room, &reply)
+    let reply = reply_to(alloc, answerer, &buffer[..size]);
+    send_reply(link, buffer, &reply)
 }
 
 /// Reads frames and answers each, until the connection ends. Each turn reads or writes at least one byte, or is the
@@ -114,19 +114,19 @@ pub fn serve_connection<L: Link, A: Answerer>(
     alloc: Global,
     link: &mut L,
     answerer: &mut A,
-    room: &mut FrameBuffer,
+    buffer: &mut FrameBuffer,
 ) -> Served
     ensures served { IsServed (A.gives answerer.old) (L.told link.old) (L.told link.new) result }
-    ensures kept { (question : Question) (reply : Reply)
+    ensures still { (question : Question) (reply : Reply)
         → (A.gives answerer.new question reply ↔ A.gives answerer.old question reply) }
 {
     let mut requests: u32 = 0;
     'turns: while requests < MAX_REQUESTS {
-        let size = match read_frame(link, &mut room.bytes[..]) {
+        let size = match read_frame(link, &mut buffer.bytes[..]) {
             Ok(size) => size,
             Err(end) => return Served { requests, end },
         };
-        if answer_frame(alloc, link, answerer, &mut room.bytes[..], size).is_err() {
+        if answer_frame(alloc, link, answerer, &mut buffer.bytes[..], size).is_err() {
             return Served {
                 requests,
                 end: ConnectionEnd::WriteFault,

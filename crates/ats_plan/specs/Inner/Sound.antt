@@ -3,8 +3,8 @@ use Rattle.std.specs.Prelude.{◌≡◌, ℕ, List}
 use Rattle.ats_plan.specs.Plan.{Plan, Finishes, Stores, Fails, Tries, Gets, Makes, Reads}
 
 -- what stops here excludes that this holds, and stops in one way
-pub record IsExact {F : Type 0} (kept : Type 0) (fault : F → Type 0) : Type 0 where
-  pub breaks : (stop : F) → fault stop → kept → ⊥
+pub record IsExact {F : Type 0} (holds : Type 0) (fault : F → Type 0) : Type 0 where
+  pub breaks : (stop : F) → fault stop → holds → ⊥
   pub one : (a b : F) → fault a → fault b → a ≡ b
 
 -- one value at most satisfies this, and none if it stops here, which is in one way
@@ -17,7 +17,7 @@ abbrev pub IsSound : {F : Type 0} → Plan F → Type 0
 IsSound (Finishes says) = Unit {0}
 IsSound (Stores name bytes says) = Unit {0}
 IsSound (Fails fault) = Unit {0}
-IsSound (Tries kept fault rest) = IsExact kept fault × IsSound rest
+IsSound (Tries holds fault rest) = IsExact holds fault × IsSound rest
 IsSound (Gets A is fault rest) = IsOne is fault × ((a : A) → IsSound (rest a))
 IsSound (Makes A is rest) = ((a b : A) → is a → is b → a ≡ b) × ((a : A) → IsSound (rest a))
 IsSound (Reads name limit long rest) = IsSound long × ((bytes : List ℕ) → IsSound (rest bytes))

@@ -30,7 +30,7 @@ pub record IsEnded (bytes : List ℕ) (tra : Bool) (ended : Ended) : Type 0 wher
 
 -- all of these, of bytes that spell a proof
 pub record IsPlaced (bytes : List ℕ) (tra : Bool) (begun : Begun) (ended : Ended) (docs : ℕ) : Type 0 where
-  pub room : HasSpace bytes
+  pub space : HasSpace bytes
   pub same : tra ≡ is_tra bytes
   pub first : IsBegun bytes begun
   pub rest : IsEnded bytes tra ended

@@ -4,7 +4,7 @@ use Rattle.ats_base.specs.Links.{CallerTold}
 use Rattle.ats_console.specs.Words.{AskWords}
 use Rattle.ats_plan.specs.Plan.{Refuses}
 use Rattle.ats_console.specs.Steps.{AsksRanking}
-use Rattle.ats_top.specs.Commands.Ask.{ask_plan}
+use Rattle.ats_top.specs.Commands.{ask_plan}
 use Rattle.ats_console.specs.declared.stops.Stop.{Stop}
 use Rattle.ats_console.specs.declared.stops.Stop.TheVariants.{Shelf, Memory}
 use Rattle.ats_top.specs.Asked.{CallStop}

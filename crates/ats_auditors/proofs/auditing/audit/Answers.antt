@@ -5,7 +5,7 @@ use Rattle.ats_console.specs.Words.{AuditWords}
 use Rattle.ats_console.specs.Print.{lines}
 use Rattle.ats_console.proofs.Public.{passed, rows_stops, query_stops, leads_ranking, leads_bytes, leads_index, same_bytes, at_bytes, at_index, still_bytes, still_index, rows_of_range, asks_of}
 use Rattle.ats_auditors.specs.Audited.{proof_audit}
-use Rattle.ats_auditors.specs.Commands.Audit.{IsAuditedRight}
+use Rattle.ats_auditors.specs.Commands.{IsAuditedRight}
 use Rattle.ats_auditors.proofs.AuditEnds.{audit_stops, audit_end}
 use Rattle.ats_auditors.proofs.auditing.audit.Goals as goal
 

@@ -4,7 +4,7 @@ use Rattle.ats_console.specs.Words.{AuditBothWords}
 use Rattle.ats_console.specs.Print.{lines_of_documents}
 use Rattle.ats_console.proofs.Public.{passed, text_stops, leads_query, leads_bytes, leads_index, same_bytes, at_bytes, at_index, still_bytes, still_index}
 use Rattle.ats_auditors.specs.Audited.{both_audit}
-use Rattle.ats_auditors.specs.Commands.AuditBoth.{IsBothAudited}
+use Rattle.ats_auditors.specs.Commands.{IsBothAudited}
 use Rattle.ats_auditors.proofs.AuditEnds.{audit_stops, audit_end}
 use Rattle.ats_auditors.proofs.documents.audit_both.Goals as goal
 

@@ -4,7 +4,7 @@ use Rattle.ats_console.specs.Words.{AuditGrowthWords}
 use Rattle.ats_console.specs.Kinds.{line_of_grown}
 use Rattle.ats_console.proofs.Public.{passed, leads_bytes, leads_index, same_bytes, same_index, at_bytes, at_index, still_bytes, still_index}
 use Rattle.ats_auditors.specs.Audited.{growth_audit}
-use Rattle.ats_auditors.specs.Commands.AuditGrowth.{IsGrowthAudited}
+use Rattle.ats_auditors.specs.Commands.{IsGrowthAudited}
 use Rattle.ats_auditors.proofs.AuditEnds.{audit_stops, audit_end}
 use Rattle.ats_auditors.proofs.FoundGrows.{found_grows}
 use Rattle.ats_auditors.proofs.growths.audit_growth.Goals as goal

@@ -4,7 +4,7 @@ use Rattle.ats_audit.specs.Sweeps.{IsVerdictOf}
 use Rattle.ats_plan.specs.Runs.{IsDone, IsStopped}
 use Rattle.ats_console.specs.Steps.{no_more, comes_to}
 use Rattle.ats_auditors.specs.Inner.Sweeping.{AreJobs, IsReport, entry_names}
-use Rattle.ats_auditors.specs.Commands.Sweep.{gathers, sweeps}
+use Rattle.ats_auditors.specs.Commands.{gathers}
 use Rattle.ats_auditors.specs.declared.gathering.Gathered.{Gathered}
 use Rattle.ats_auditors.specs.declared.listing.Entry.{Entry}
 use Rattle.ats_console.specs.declared.stops.Stop.TheVariants.{Shelf, Memory}

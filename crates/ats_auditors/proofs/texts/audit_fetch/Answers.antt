@@ -6,7 +6,7 @@ use Rattle.ats_console.specs.Words.{AuditFetchWords}
 use Rattle.ats_console.specs.Kinds.{printed_text}
 use Rattle.ats_console.proofs.Public.{passed, leads_bytes, leads_index, same_bytes, at_bytes, at_index, still_bytes, still_index}
 use Rattle.ats_auditors.specs.Audited.{text_audit}
-use Rattle.ats_auditors.specs.Commands.AuditFetch.{IsFetchAudited}
+use Rattle.ats_auditors.specs.Commands.{IsFetchAudited}
 use Rattle.ats_auditors.proofs.AuditEnds.{audit_stops, audit_end}
 use Rattle.ats_auditors.proofs.texts.audit_fetch.Goals as goal
 

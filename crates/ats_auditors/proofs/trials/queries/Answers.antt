@@ -2,8 +2,7 @@ use Rattle.std.proofs.Common.{◌≡◌, ◌+◌, ◌++◌, ◌∷◌, [], ℕ, 
 use Rattle.std.proofs.lemmas.List.{length-append}
 use Rattle.ats_terms.specs.Query.{IsQueryOf}
 use Rattle.ats_impact.specs.Trial.{trial_query}
-use Rattle.ats_console.specs.Stops.{stop_of_query}
-use Rattle.ats_auditors.specs.Inner.Trial.{AreTrialQueries, IsTrialStop}
+use Rattle.ats_auditors.specs.Inner.Trial.{AreTrialQueries}
 use Rattle.ats_console.proofs.Public.{passed}
 use Rattle.ats_auditors.proofs.Tried.{are_queries, queries_more, query_stops}
 use Rattle.ats_auditors.proofs.trials.queries.Goals as goal

@@ -10,5 +10,5 @@ lists-init c =
     record {
       sum = entries_begin _ proof c.lists-lists.ensures;
       few = entries_few proof c.is_spelled.ensures.range (omega (arith, few));
-      steps = omega (arith, few, c.requires.room, ap (λ (lists : List Prefix). length lists) c.lists-lists.ensures);
+      steps = omega (arith, few, c.requires.space, ap (λ (lists : List Prefix). length lists) c.lists-lists.ensures);
     }

@@ -1,7 +1,7 @@
 use Rattle.std.proofs.Common.{ℕ, List}
 use Rattle.ats_proof.specs.declared.record.Algorithm.TheVariants.{Tra, Tnra}
 use Rattle.ats_auditors.specs.Trial.{IsTried}
-use Rattle.ats_auditors.specs.Inner.Trial.{IsTryStop, IsTriesStop}
+use Rattle.ats_auditors.specs.Inner.Trial.{IsTryStop}
 use Rattle.ats_console.proofs.Public.{passed}
 use Rattle.ats_auditors.proofs.Tried.{at_query, first_more, stops_at_tra, stops_at_tnra}
 use Rattle.ats_auditors.proofs.trials.tallies.Goals as goal

@@ -1,8 +1,5 @@
-use Rattle.std.proofs.Common.{◌≡◌, ◌⊎◌, ℕ, List, Vec, Global, ap, inr, ◌∙◌}
-use Rattle.ats_auditors.specs.Inner.Trial.{IsTriesStop}
+use Rattle.std.proofs.Common.{ℕ, List, Vec, Global, ap, inr, ◌∙◌}
 use Rattle.ats_auditors.specs.Trial.{lines_of_trial}
-use Rattle.ats_console.specs.declared.stops.Stop.{Stop}
-use Rattle.ats_console.specs.declared.stops.Stop.TheVariants.{Memory}
 use Rattle.ats_console.proofs.Public.{passed}
 use Rattle.ats_auditors.proofs.trials.try_to_lines.Goals as goal
 

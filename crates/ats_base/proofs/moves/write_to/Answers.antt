@@ -11,5 +11,5 @@ writes-preserved g c =
       written = wrote_more _ _ _ _ _ _ _ c.writes.invariant.written (take_all _ _ all) c.in_ok-count.ensures.bytes;
       turns = omega (arith, c.in_ok-count.ensures.counted, c.in_ok-count.ensures.some.1, c.writes.invariant.turns, c.writes-test.true, length-drop c.writes.done bytes);
       none = λ empty. absurd (omega (arith, ap length empty, c.writes-test.true));
-      kept = c.in_ok-count.ensures.cause.kept ∙ c.writes.invariant.kept;
+      same = c.in_ok-count.ensures.cause.same ∙ c.writes.invariant.same;
     }

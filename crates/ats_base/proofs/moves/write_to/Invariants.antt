@@ -9,7 +9,7 @@ invariant-writes g l = record {
   written : Exchanged (g.W.Writing.told l.fn.object).traffic (g.W.Writing.told l.object).traffic [] (take l.done l.bytes);
   turns : (g.W.Writing.told l.object).calls ≤ (g.W.Writing.told l.fn.object).calls + l.done;
   none : l.bytes ≡ [] → l.object ≡ l.fn.object;
-  kept : (g.W.Writing.told l.object).faults ≡ (g.W.Writing.told l.fn.object).faults;
+  same : (g.W.Writing.told l.object).faults ≡ (g.W.Writing.told l.fn.object).faults;
 }
 
 abbrev pub decreases-writes : goal.decreases-writes

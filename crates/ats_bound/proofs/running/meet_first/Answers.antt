@@ -2,7 +2,7 @@ use Rattle.std.proofs.Common.{◌≡◌, ℕ, List, length, refl, ap, subst, ◌
 use Rattle.std.proofs.lemmas.List.{length-map}
 use Rattle.ats_bound.specs.Inner.Known.{AreKnown}
 use Rattle.ats_bound.specs.Schedule.{WholeLane, shown, whole_lane, whole_lanes}
-use Rattle.ats_bound.proofs.KnownSteps.{begun_all, begun_cut, begun_none, first_known, first_room}
+use Rattle.ats_bound.proofs.KnownSteps.{begun_all, begun_cut, begun_none, first_known, first_space}
 use Rattle.ats_bound.proofs.Shown.{no_lane, whole_at}
 use Rattle.ats_bound.proofs.running.meet_first.Goals as goal
 
@@ -18,7 +18,7 @@ first_gain-requires c = whole_at c.args.lanes.now c.loop-i.i no_lane c.requires.
 
 pub meet-requires : goal.meet-requires
 meet-requires c =
-    first_room c.args.lanes.now c.loop-i.i c.requires.lanes (omega arith) c.loop-i.known c.loop-i.invariant.known c.first_gain.result.doc c.first_gain.result.gain c.digit.result
+    first_space c.args.lanes.now c.loop-i.i c.requires.lanes (omega arith) c.loop-i.known c.loop-i.invariant.known c.first_gain.result.doc c.first_gain.result.gain c.digit.result
     c.first_gain.ensures.doc c.first_gain.ensures.gain c.first_gain.ensures.few c.digit.ensures
 
 pub loop-i-preserved : goal.loop-i-preserved

@@ -4,7 +4,7 @@ use Rattle.ats_plan.proofs.Public.{leads_none}
 use Rattle.ats_console.specs.Words.{BothWords}
 use Rattle.ats_console.specs.Kinds.{both_kind}
 use Rattle.ats_console.proofs.Public.{passed, text_stops, leads_query, leads_bytes, at_bytes, still_bytes, check_stops, check_end}
-use Rattle.ats_checkers.specs.Commands.Both.{IsBothChecked}
+use Rattle.ats_checkers.specs.Commands.{IsBothChecked}
 use Rattle.ats_checkers.proofs.documents.both.Goals as goal
 
 pub returns-in_err-asked-clause-stop : goal.returns-in_err-asked-clause-stop

@@ -4,7 +4,7 @@ use Rattle.ats_plan.proofs.Public.{leads_none}
 use Rattle.ats_console.specs.Words.{GrowthWords}
 use Rattle.ats_console.specs.Kinds.{growth_kind}
 use Rattle.ats_console.proofs.Public.{passed, leads_bytes, at_bytes, still_bytes, check_stops, check_end}
-use Rattle.ats_checkers.specs.Commands.Growth.{IsGrowthChecked}
+use Rattle.ats_checkers.specs.Commands.{IsGrowthChecked}
 use Rattle.ats_checkers.proofs.growths.growth.Goals as goal
 
 pub returns-in_err-bytes-clause-stop : goal.returns-in_err-bytes-clause-stop

@@ -5,7 +5,7 @@ use Rattle.ats_plan.proofs.Public.{leads_none}
 use Rattle.ats_console.specs.Words.{FetchWords}
 use Rattle.ats_console.specs.Kinds.{text_kind}
 use Rattle.ats_console.proofs.Public.{passed, leads_bytes, at_bytes, still_bytes, check_stops, check_end}
-use Rattle.ats_checkers.specs.Commands.Fetch.{IsFetched}
+use Rattle.ats_checkers.specs.Commands.{IsFetched}
 use Rattle.ats_checkers.proofs.texts.fetch.Goals as goal
 
 pub returns-in_err-bytes-clause-stop : goal.returns-in_err-bytes-clause-stop

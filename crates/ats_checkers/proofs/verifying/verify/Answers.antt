@@ -5,7 +5,7 @@ use Rattle.ats_console.specs.Words.{VerifyWords}
 use Rattle.ats_console.specs.Print.{lines}
 use Rattle.ats_console.specs.Kinds.{proof_kind}
 use Rattle.ats_console.proofs.Public.{passed, rows_stops, query_stops, leads_ranking, leads_bytes, at_bytes, still_bytes, rows_of_range, asks_of, check_stops, check_end}
-use Rattle.ats_checkers.specs.Commands.Verify.{IsVerified}
+use Rattle.ats_checkers.specs.Commands.{IsVerified}
 use Rattle.ats_checkers.proofs.verifying.verify.Goals as goal
 
 pub returns-in_err-rows-clause-stop : goal.returns-in_err-rows-clause-stop

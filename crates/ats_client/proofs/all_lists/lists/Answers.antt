@@ -114,12 +114,12 @@ loop-i-preserved g c =
             passed = subst (λ (n : ℕ). IsPassed H query proof (i + 1) after c.match-present.terms n c.match-present.work.marks) (sym w.threshold-is)
                 (subst (λ (ts : List PresentTerm). IsPassed H query proof (i + 1) after ts c.loop-i.threshold c.match-present.work.marks) (sym w.terms-is)
                 (subst (λ (m : Marked). IsPassed H query proof (i + 1) after c.loop-i.terms c.loop-i.threshold m.marks) (sym w.work-is) passed));
-            ranges = subst (All IsPrefixInRange) (sym w.in_default.ensures.kept) c.loop-i.invariant.ranges;
+            ranges = subst (All IsPrefixInRange) (sym w.in_default.ensures.same) c.loop-i.invariant.ranges;
             dict = ap entries_left w.in_default.ensures.dict ∙ c.loop-i.invariant.dict;
             room = ap (λ (m : Marked). m.room) w.work-is ∙ c.loop-i.invariant.room;
             cost = omega (arith, w.steps-is, w.in_default.ensures.cost, c.loop-i.invariant.cost);
             before = before_next c.present.new.walk.place proof.slots i rise (w.in_default.ensures.before here);
-            most = omega (arith, w.steps-is, w.in_default.ensures.most here, ap (sum_by items_of_prefix) w.in_default.ensures.kept, c.loop-i.invariant.most);
+            most = omega (arith, w.steps-is, w.in_default.ensures.most here, ap (sum_by items_of_prefix) w.in_default.ensures.same, c.loop-i.invariant.most);
           }
     ]
 

@@ -23,7 +23,7 @@ in_tree-requires g c κs =
     c.header-leaves.result.documents (docs_leaves_of c.revealed-section.result) (digests_of c.revealed-section.result.digests) c.in_ok-docs.ensures.documents
     (ap (λ (h : Header). h.documents) c.header-leaves.ensures) shown c.revealed-section.ensures.digests c.requires.tree in
     let short = subst (All (λ (s : Shown). length s.1 ≤ 127)) (sym shown) (documents-short proof.met docs.leaves range.each) in
-    ((refl, tt), (tt, ((λ two. absurd (cc two)), (rebuilds, (omega arith, ((λ two. absurd (cc two)), (short, omega (arith, c.requires.room))))))))
+    ((refl, tt), (tt, ((λ two. absurd (cc two)), (rebuilds, (omega arith, ((λ two. absurd (cc two)), (short, omega (arith, c.requires.space))))))))
 
 pub returns-in-Some : goal.returns-in-Some
 returns-in-Some g c =

@@ -23,4 +23,4 @@ in_tree-requires g c κs =
     c.revealed-section.ensures.digests c.requires.right.root in
     let front = ap positions_of c.revealed-section.ensures.shown ∙ list-from 0 proof.met entries ∙ ap (range_with_len 0) (sym c.len.ensures) in
     let short = subst (All (λ (s : Shown). length s.1 ≤ 127)) (sym c.revealed-section.ensures.shown) (list-short 0 proof.met entries) in
-    ((refl, tt), (c.requires.number, ((λ two. (one.number, refl)), (rebuilds, (omega (arith, c.len.ensures, c.requires.range.few), ((λ two. front), (short, omega (arith, c.requires.room))))))))
+    ((refl, tt), (c.requires.number, ((λ two. (one.number, refl)), (rebuilds, (omega (arith, c.len.ensures, c.requires.range.few), ((λ two. front), (short, omega (arith, c.requires.space))))))))

@@ -83,7 +83,7 @@ loop-i-preserved g c =
             ∙ ap (λ (ones : List Presented). first_collision H (ours H (g.O.OwnStrings.archive c.args.own.now) query) (flat_map (list_strings H proof.format proof.met) ones))
             w.in_default.ensures.none;
         right = subst (All (IsListRight H proof.format proof.met)) w.in_default.ensures.none c.loop-i.invariant.right;
-        ranges = subst (All IsPrefixInRange) (sym w.in_default.ensures.kept) c.loop-i.invariant.ranges;
+        ranges = subst (All IsPrefixInRange) (sym w.in_default.ensures.same) c.loop-i.invariant.ranges;
         enough = w.in_default.ensures.enough;
         dict = ap entries_left w.in_default.ensures.dict ∙ c.loop-i.invariant.dict;
         cost = omega (arith, w.steps-is, w.in_default.ensures.cost, c.loop-i.invariant.cost);

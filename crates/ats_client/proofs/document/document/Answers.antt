@@ -38,7 +38,7 @@ returns-in_err-impact-clause-fault g c =
     c.in_err-impact.ensures.told c.in_err-impact.ensures.wrong in
     passed_on (IsFirstFault (document_rules g.H.HashKind.hash c.args.query.now (numbers_of c.args.terms.now) one)) c.from_residual-in_err-impact.result c.in_err-impact.field-0.0
     c.from_residual-in_err-impact.ensures.1
-    (inr (c.in_ok-rooted.ensures.kept, inl fault))
+    (inr (c.in_ok-rooted.ensures.holds, inl fault))
 
 pub returns-in_err-impact-clause-most : goal.returns-in_err-impact-clause-most
 returns-in_err-impact-clause-most g c =

@@ -7,7 +7,7 @@ use Rattle.ats_client.specs.Groups.{indexes_of}
 use Rattle.ats_client.specs.Inner.SeenLists.{prefix_of}
 use Rattle.ats_client.specs.Inner.Noting.{Note, AreNotes}
 use Rattle.ats_client.proofs.Named.{out_at, again_at, names_more}
-use Rattle.ats_client.proofs.Marks.{index_at, notes_next, named_before, not_named, room_for}
+use Rattle.ats_client.proofs.Marks.{index_at, notes_next, named_before, not_named, space_for}
 use Rattle.ats_client.proofs.marking.entries.Goals as goal
 
 pub returns-then-entry-met-clause-fault : goal.returns-then-entry-met-clause-fault
@@ -20,20 +20,20 @@ returns-then-entry-met-clause-fault c =
 pub noted-requires-clause-inside : goal.noted-requires-clause-inside
 noted-requires-clause-inside c =
     let are = c.loop-i.invariant.notes c.requires.notes.0 c.requires.notes.1 in
-    let room = room_for c.args.met _ (c.args.one.now.number + 1) _ c.loop-i.work.marks c.entry-entry.result.doc are c.if-entry-met.false (omega (arith, c.requires.number)) in
-    room.inside
+    let space = space_for c.args.met _ (c.args.one.now.number + 1) _ c.loop-i.work.marks c.entry-entry.result.doc are c.if-entry-met.false (omega (arith, c.requires.number)) in
+    space.inside
 
 pub noted-requires-clause-lo : goal.noted-requires-clause-lo
 noted-requires-clause-lo c =
     let are = c.loop-i.invariant.notes c.requires.notes.0 c.requires.notes.1 in
-    let room = room_for c.args.met _ (c.args.one.now.number + 1) _ c.loop-i.work.marks c.entry-entry.result.doc are c.if-entry-met.false (omega (arith, c.requires.number)) in
-    omega (arith, room.lo, c.weighed-gain.ensures.small)
+    let space = space_for c.args.met _ (c.args.one.now.number + 1) _ c.loop-i.work.marks c.entry-entry.result.doc are c.if-entry-met.false (omega (arith, c.requires.number)) in
+    omega (arith, space.lo, c.weighed-gain.ensures.small)
 
 pub noted-requires-clause-held : goal.noted-requires-clause-held
 noted-requires-clause-held c =
     let are = c.loop-i.invariant.notes c.requires.notes.0 c.requires.notes.1 in
-    let room = room_for c.args.met _ (c.args.one.now.number + 1) _ c.loop-i.work.marks c.entry-entry.result.doc are c.if-entry-met.false (omega (arith, c.requires.number)) in
-    omega (arith, room.held, c.requires.rest)
+    let space = space_for c.args.met _ (c.args.one.now.number + 1) _ c.loop-i.work.marks c.entry-entry.result.doc are c.if-entry-met.false (omega (arith, c.requires.number)) in
+    omega (arith, space.held, c.requires.rest)
 
 pub returns-then-not-noted-clause-fault : goal.returns-then-not-noted-clause-fault
 unfolding prefix_of

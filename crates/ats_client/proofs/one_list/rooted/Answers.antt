@@ -13,4 +13,4 @@ rebuilt_list-requires g c κs =
     let entries : List Entry = (prefix_of c.args.one.now.list).entries in
     let front = ap positions_of c.revealed-section.ensures.shown ∙ list-from 0 met entries ∙ ap (range_with_len 0) (sym c.len.ensures) in
     let size = ap (λ (s : List Shown). length s) c.revealed-section.ensures.shown ∙ shown_list_size 0 met entries ∙ sym c.len.ensures in
-    ((refl, tt), (omega (arith, c.len.ensures, c.requires.range.some), (omega (arith, c.len.ensures, c.requires.range.few), (front, (size, omega (arith, c.requires.room))))))
+    ((refl, tt), (omega (arith, c.len.ensures, c.requires.range.some), (omega (arith, c.len.ensures, c.requires.range.few), (front, (size, omega (arith, c.requires.space))))))

@@ -4,11 +4,11 @@ use Rattle.ats_conjunction.proofs.checking.checked.Goals as goal
 
 pub are_present-requires : goal.are_present-requires
 are_present-requires g c = record {
-  room = omega (arith, few_items c.is_spelled.ensures.spelled.0 c.args.proof.now c.is_spelled.ensures.spelled.1, c.in_ok-sections.ensures.steps, c.requires.count);
+  space = omega (arith, few_items c.is_spelled.ensures.spelled.0 c.args.proof.now c.is_spelled.ensures.spelled.1, c.in_ok-sections.ensures.steps, c.requires.count);
 }
 
-pub shows_whole_list-requires-clause-room : goal.shows_whole_list-requires-clause-room
-shows_whole_list-requires-clause-room g c =
+pub shows_whole_list-requires-clause-space : goal.shows_whole_list-requires-clause-space
+shows_whole_list-requires-clause-space g c =
     omega (
       arith,
       few_items c.is_spelled.ensures.spelled.0 c.args.proof.now c.is_spelled.ensures.spelled.1,

@@ -4,8 +4,8 @@ use Rattle.ats_consistency.specs.Shape.{turns}
 use Rattle.ats_consistency.proofs.CheckLemmas.{few_turns}
 use Rattle.ats_consistency.proofs.checking.texts_roots.Goals as goal
 
-pub roots_of-requires-clause-room : goal.roots_of-requires-clause-room
-roots_of-requires-clause-room g c =
+pub roots_of-requires-clause-space : goal.roots_of-requires-clause-space
+roots_of-requires-clause-space g c =
     let few = few_turns c.args.proof.now c.is_in_range.ensures c.requires.within in
     let same = ap₂ (λ (a b : Header). length (turns a.documents b.documents)) c.old.ensures.header c.new_archive.ensures.header in
     omega (arith, few, same)

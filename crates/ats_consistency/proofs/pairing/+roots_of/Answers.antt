@@ -41,8 +41,8 @@ next_digest-right-requires-clause-some g t c =
     let need' = need-left c.args.m c.args.n c.cut_of-k.result c.cut_of-k.ensures.power c.cut_of-k.ensures.largest c.args.known c.cut_of-k.ensures.below c.if-m-k.true in
     one-left (need (turns c.args.m c.cut_of-k.result) c.args.known) (digests_of c.args.digests.now) (digests_of c.roots_of-left.new.digests) c.roots_of-left.ensures.paired.rest (omega (arith, need', c.requires.enough))
 
-pub next_digest-right-requires-clause-room : goal.next_digest-right-requires-clause-room
-next_digest-right-requires-clause-room g t c =
+pub next_digest-right-requires-clause-space : goal.next_digest-right-requires-clause-space
+next_digest-right-requires-clause-space g t c =
     omega (arith, length-left c.args.m c.args.n c.cut_of-k.result c.cut_of-k.ensures.power c.cut_of-k.ensures.largest c.cut_of-k.ensures.below c.if-m-k.true)
 
 pub digest2-requires : goal.digest2-requires
@@ -76,8 +76,8 @@ next_digest-left-requires-clause-some g t c =
     let need' = need-right c.args.m c.args.n c.cut_of-k.result c.cut_of-k.ensures.power c.cut_of-k.ensures.largest c.args.known c.if-m-k.false more in
     one-left (need (turns (c.args.m - c.cut_of-k.result) (c.args.n - c.cut_of-k.result)) false) (digests_of c.args.digests.now) (digests_of c.roots_of-right.new.digests) c.roots_of-right.ensures.paired.rest (omega (arith, need', c.requires.enough))
 
-pub next_digest-left-requires-clause-room : goal.next_digest-left-requires-clause-room
-next_digest-left-requires-clause-room g t c =
+pub next_digest-left-requires-clause-space : goal.next_digest-left-requires-clause-space
+next_digest-left-requires-clause-space g t c =
     let more : c.args.m < c.args.n = omega arith in
     omega (arith, length-right c.args.m c.args.n c.cut_of-k.result c.cut_of-k.ensures.power c.cut_of-k.ensures.largest c.if-m-k.false more)
 

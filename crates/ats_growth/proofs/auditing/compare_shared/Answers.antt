@@ -9,7 +9,7 @@ compare_ranges-requires-clause-within g c =
     c.collection-older.result.now c.documents-m.result c.collection-older.ensures.same c.documents-m.ensures.value in
     let n = same-number g.H.HashKind.hash g.H.HashKind.sized c.args.new.now p.new_format p.new c.collection-newer.ensures.texts c.is_in_range.ensures.new c.requires.new_header
     c.collection-newer.result.now c.documents-n.result c.collection-newer.ensures.same c.documents-n.ensures.value in
-    omega (arith, m, n, c.requires.accepts.kept.1.1.0)
+    omega (arith, m, n, c.requires.accepts.holds.1.1.0)
 
 pub returns-in_default : goal.returns-in_default
 returns-in_default g c =

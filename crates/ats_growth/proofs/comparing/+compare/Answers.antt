@@ -37,7 +37,7 @@ compare-below-requires g t c κs within =
             c.if-m-k.true,
             (
               c.requires.inside_old,
-              (omega (arith, c.requires.inside_new, k.ensures.below), (omega (arith, more, c.requires.enough), omega (arith, c.requires.room, k.ensures.below))),
+              (omega (arith, c.requires.inside_new, k.ensures.below), (omega (arith, more, c.requires.enough), omega (arith, c.requires.space, k.ensures.below))),
             ),
           ),
         ),
@@ -80,7 +80,7 @@ compare-below-requires-2 g t c κs within =
             omega (arith, more),
             (
               omega (arith, c.requires.inside_old, past),
-              (omega (arith, c.requires.inside_new, k.ensures.below), (omega (arith, needs, c.requires.enough), omega (arith, c.requires.room, k.ensures.below))),
+              (omega (arith, c.requires.inside_new, k.ensures.below), (omega (arith, needs, c.requires.enough), omega (arith, c.requires.space, k.ensures.below))),
             ),
           ),
         ),

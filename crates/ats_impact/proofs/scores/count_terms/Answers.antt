@@ -4,8 +4,8 @@ use Rattle.ats_terms.specs.Terms.{occurrences}
 use Rattle.ats_impact.proofs.Occurrences.{term_at, occurs_few, counted_all}
 use Rattle.ats_impact.proofs.scores.count_terms.Goals as goal
 
-pub count_term-requires-clause-room : goal.count_term-requires-clause-room
-count_term-requires-clause-room c k d inside =
+pub count_term-requires-clause-space : goal.count_term-requires-clause-space
+count_term-requires-clause-space c k d inside =
     let items = c.loop-i.items.items in
     let seen = take c.loop-i.i c.args.terms.now in
     let at : get_or c.deref_mut.result.now k d ≡ get_or items k 0 =

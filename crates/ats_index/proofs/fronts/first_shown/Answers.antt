@@ -13,8 +13,8 @@ use Rattle.ats_index.proofs.fronts.first_shown.Goals as goal
 pub take_leaf-requires-clause-short : goal.take_leaf-requires-clause-short
 take_leaf-requires-clause-short g c = first_short (g.S.ShownTree.shown c.loop-i.shown) c.loop-i.invariant.short
 
-pub take_leaf-requires-clause-room : goal.take_leaf-requires-clause-room
-take_leaf-requires-clause-room g c = omega (arith, c.loop-i.invariant.cost, c.requires.room, c.requires.few, c.loop-i-test.true, c.len-i-end.ensures)
+pub take_leaf-requires-clause-space : goal.take_leaf-requires-clause-space
+take_leaf-requires-clause-space g c = omega (arith, c.loop-i.invariant.cost, c.requires.space, c.requires.few, c.loop-i-test.true, c.len-i-end.ensures)
 
 -- another leaf
 pub returns-then-ne-clause-none : goal.returns-then-ne-clause-none

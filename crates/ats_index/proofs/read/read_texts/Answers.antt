@@ -21,7 +21,7 @@ returns-in_default c =
       short = so_far.short;
       small = omega (arith, so_far.sum, so_far.small);
     })
-    (λ size more room. c.in_default.ensures.none size more (omega arith) (omega (arith, room.short, room.small, so_far.sum, so_far.small, c.min-room.ensures)))
+    (λ size more space. c.in_default.ensures.none size more (omega arith) (omega (arith, space.short, space.small, so_far.sum, so_far.small, c.min-most.ensures)))
 
 pub returns-in_default-text_of : goal.returns-in_default-text_of
 returns-in_default-text_of c =
@@ -37,8 +37,8 @@ returns-in_default-text_of c =
       small = omega (arith, so_far.sum, so_far.small);
     })
     (record {
-      short = omega (arith, c.in-Some.ensures.high, c.min-room.ensures);
-      small = omega (arith, c.in-Some.ensures.high, c.min-room.ensures, so_far.sum, so_far.small);
+      short = omega (arith, c.in-Some.ensures.high, c.min-most.ensures);
+      small = omega (arith, c.in-Some.ensures.high, c.min-most.ensures, so_far.sum, so_far.small);
     })
     c.in-Some.ensures.same
     (λ text more long utf8 same. c.in_default-text_of.ensures.none text more long utf8 (to_end 4 rest ∙ same))
@@ -58,9 +58,9 @@ loop-document-preserved c =
           c.in-Some-text_of.ensures.long c.in-Some.ensures.same (sym (to_end 4 rest) ∙ c.in-Some-text_of.ensures.same);
       count = length-append texts (text ∷ []) ∙ omega (arith, so_far.count);
       utf8 = All-push IsUtf8 texts text so_far.utf8 c.in-Some-text_of.ensures.utf8;
-      short = All-push (λ (t : List ℕ). length t ≤ 2 ^ 20) texts text so_far.short (omega (arith, c.in-Some-text_of.ensures.long, c.in-Some.ensures.high, c.min-room.ensures));
+      short = All-push (λ (t : List ℕ). length t ≤ 2 ^ 20) texts text so_far.short (omega (arith, c.in-Some-text_of.ensures.long, c.in-Some.ensures.high, c.min-most.ensures));
       sum = more;
-      small = omega (arith, c.in-Some.ensures.high, c.min-room.ensures, so_far.small);
+      small = omega (arith, c.in-Some.ensures.high, c.min-most.ensures, so_far.small);
     })
 
 pub returns : goal.returns

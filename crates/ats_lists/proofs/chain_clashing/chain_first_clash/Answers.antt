@@ -27,7 +27,7 @@ search_trees-first-requires g c κs =
             fits.1,
             (
               length-take-le _ _ (omega arith) ∙ blocks,
-              (omega arith, (omega (arith, fits.2), (c.requires.short, omega (arith, c.requires.room)))),
+              (omega arith, (omega (arith, fits.2), (c.requires.short, omega (arith, c.requires.space)))),
             ),
           ),
         ),
@@ -38,7 +38,7 @@ pub pass_next-requires : goal.pass_next-requires
 pass_next-requires g c κs =
     let sized : All (λ (d : List ℕ). length d ≡ 32) (g.R.Revealed.digests c.search_trees-first.new.revealed) =
     rw c.search_trees-first.ensures.whole.digests_left (All-drop (λ (d : List ℕ). length d ≡ 32) _ _ c.position-first.ensures.sized)
-    in ((refl, tt), (sized, omega (arith, c.search_trees-first.ensures.cost, c.requires.room)))
+    in ((refl, tt), (sized, omega (arith, c.search_trees-first.ensures.cost, c.requires.space)))
 
 -- the digest of the next block is there
 pub unreachable-requires : goal.unreachable-requires
@@ -55,14 +55,14 @@ search_links-requires-clause-few g c =
     let size : length (g.R.Revealed.shown c.args.revealed.now) ≡ c.args.k = front-length 0 c.args.k (g.R.Revealed.shown c.args.revealed.now) c.requires.front
     in omega (arith, block-count g.H.HashKind.hash c.args.f _ _ _ _ _ c.search_trees-first.ensures.whole, c.requires.few)
 
-pub search_links-requires-clause-room : goal.search_links-requires-clause-room
-search_links-requires-clause-room g c =
+pub search_links-requires-clause-space : goal.search_links-requires-clause-space
+search_links-requires-clause-space g c =
     omega (
       arith,
       c.search_trees-first.ensures.cost,
       c.in-Some.ensures.cost,
       for-next-few (nat_lt (64 * c.div_ceil-blocks.result) c.args.f),
-      c.requires.room,
+      c.requires.space,
     )
 
 pub returns-clause-clash : goal.returns-clause-clash

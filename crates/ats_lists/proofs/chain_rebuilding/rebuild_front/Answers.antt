@@ -57,7 +57,7 @@ link_blocks-requires g c =
     let count : length c.rebuild_blocks.new.roots ≡ blocks_in (length (g.R.Revealed.shown c.args.revealed.now)) =
     block-count g.H.HashKind.hash c.args.f (g.R.Revealed.shown c.args.revealed.now) (g.R.Revealed.shown c.rebuild_blocks.new.revealed) (g.R.Revealed.digests c.args.revealed.now) (g.R.Revealed.digests c.rebuild_blocks.new.revealed) _ c.in_ok-rebuild_blocks.ensures.whole
     in record {
-      room = omega (arith, count, c.in_ok-rebuild_blocks.ensures.by_places, c.pass_next.ensures.cost, c.pass_digest.ensures.cost, for-next-few (nat_lt (64 * length c.args.roots.now) c.args.f));
+      space = omega (arith, count, c.in_ok-rebuild_blocks.ensures.by_places, c.pass_next.ensures.cost, c.pass_digest.ensures.cost, for-next-few (nat_lt (64 * length c.args.roots.now) c.args.f));
     }
 
 pub returns-in-None-clause-value : goal.returns-in-None-clause-value

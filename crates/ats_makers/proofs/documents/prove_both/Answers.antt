@@ -1,6 +1,7 @@
+use Rattle.std.proofs.Common.{refl}
 use Rattle.std.proofs.lemmas.Result.{IfOk-weaker, IfErr-weaker}
 use Rattle.ats_plan.proofs.Public.{leads_none, leads_try, leads_make}
-use Rattle.ats_console.proofs.Public.{passed, text_stops, leads_query, at_index, leads_index, index_at, same_index, try_stops}
+use Rattle.ats_console.proofs.Public.{passed, text_stops, leads_query, at_index, leads_index, still_index, try_stops}
 use Rattle.ats_makers.proofs.OneBoth.{both_short}
 use Rattle.ats_makers.proofs.Stored.{stored, not_stored}
 use Rattle.ats_makers.proofs.documents.prove_both.Goals as goal
@@ -28,7 +29,7 @@ returns-clause-ok g c =
       query = c.in_ok-asked.asked;
       bytes = c.in_ok-bytes.bytes;
       asked = c.in_ok-asked.ensures.ok;
-      index = index_at (same_index c.in_ok-loaded.ensures.ok) c.in_ok-loaded.ensures.ok;
+      index = still_index c.in_ok-loaded.ensures.ok refl;
       made = made;
       stored = puts;
       printed = printed;

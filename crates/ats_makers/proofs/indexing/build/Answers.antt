@@ -1,6 +1,6 @@
 use Rattle.std.proofs.lemmas.Result.{IfOk-weaker, IfErr-weaker}
 use Rattle.ats_plan.proofs.Public.{leads_none, leads_make}
-use Rattle.ats_console.proofs.Public.{passed, at_collection, leads_collection, collection_at, same_collection}
+use Rattle.ats_console.proofs.Public.{passed, at_collection, leads_collection, still_collection}
 use Rattle.ats_makers.proofs.Stored.{stored, not_stored, published_as}
 use Rattle.ats_makers.proofs.indexing.build.Goals as goal
 
@@ -15,7 +15,7 @@ returns-clause-ok g c =
     IfOk-weaker c.store_made.result _ _ (λ text done. stored leads done (λ puts printed. record {
       texts = c.in_ok-texts.texts;
       bytes = c.in_ok-bytes.bytes;
-      collection = collection_at (same_collection c.in_ok-texts.ensures.ok) c.in_ok-texts.ensures.ok;
+      collection = still_collection c.in_ok-texts.ensures.ok;
       spelling = spelling;
       stored = puts;
       published = published_as line printed;

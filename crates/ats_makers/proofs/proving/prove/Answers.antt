@@ -1,6 +1,7 @@
+use Rattle.std.proofs.Common.{refl}
 use Rattle.std.proofs.lemmas.Result.{IfOk-weaker, IfErr-weaker}
 use Rattle.ats_plan.proofs.Public.{leads_none, leads_try, leads_make}
-use Rattle.ats_console.proofs.Public.{passed, leads_ranking, at_index, leads_index, index_at, same_index, try_stops, made_short, rows_of_range, asks_of}
+use Rattle.ats_console.proofs.Public.{passed, leads_ranking, at_index, leads_index, still_index, try_stops, made_short, rows_of_range, asks_of}
 use Rattle.ats_makers.proofs.Stored.{stored, not_stored}
 use Rattle.ats_makers.proofs.proving.prove.Goals as goal
 
@@ -25,7 +26,7 @@ returns-clause-ok g c =
       proof = record {
         archive = c.in_ok-loaded.loaded;
         query = c.in_ok-asked.asked;
-        index = index_at (same_index c.in_ok-loaded.ensures.ok) c.in_ok-loaded.ensures.ok;
+        index = still_index c.in_ok-loaded.ensures.ok refl;
         asked = c.in_ok-asked.ensures.ok;
         proved = made.proved;
         short = made.short;

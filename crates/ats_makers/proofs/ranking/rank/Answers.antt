@@ -1,5 +1,5 @@
 use Rattle.ats_plan.proofs.Public.{leads_none, done_end}
-use Rattle.ats_console.proofs.Public.{leads_ranking, leads_collection, collection_at, same_collection, asks_of}
+use Rattle.ats_console.proofs.Public.{leads_ranking, leads_collection, still_collection, asks_of}
 use Rattle.ats_makers.proofs.ranking.rank.Goals as goal
 
 pub returns-clause-ok : goal.returns-clause-ok
@@ -11,7 +11,7 @@ returns-clause-ok g c =
       texts = c.in_ok-collection.collection;
       query = c.in_ok-query.query;
       rows = c.in_ok-rows.rows;
-      collection = collection_at (same_collection c.in_ok-collection.ensures.ok) c.in_ok-collection.ensures.ok;
+      collection = still_collection c.in_ok-collection.ensures.ok;
       asked = c.in_ok-query.ensures.ok;
       ranking = rw c.in_ok-top.ensures.ok at c.in_ok-rows.ensures.ranking;
       top = rw c.in_ok-top.ensures.ok at c.in_ok-rows.ensures.top;

@@ -1,6 +1,7 @@
+use Rattle.std.proofs.Common.{refl}
 use Rattle.std.proofs.lemmas.Result.{IfOk-weaker, IfErr-weaker}
 use Rattle.ats_plan.proofs.Public.{leads_none, leads_try, leads_make}
-use Rattle.ats_console.proofs.Public.{passed, at_index, leads_index, index_at, same_index, try_stops}
+use Rattle.ats_console.proofs.Public.{passed, at_index, leads_index, still_index, try_stops}
 use Rattle.ats_makers.proofs.Stored.{stored, not_stored}
 use Rattle.ats_makers.proofs.texts.give.Goals as goal
 
@@ -17,7 +18,7 @@ returns-clause-ok g c =
     IfOk-weaker c.store_sized.result _ _ (λ text done. stored leads done (λ puts printed. record {
       archive = c.in_ok-loaded.loaded;
       bytes = c.in_ok-bytes.bytes;
-      index = index_at (same_index c.in_ok-loaded.ensures.ok) c.in_ok-loaded.ensures.ok;
+      index = still_index c.in_ok-loaded.ensures.ok refl;
       inside = c.in_ok-bytes.ensures.inside;
       given = c.in_ok-bytes.ensures.file;
       stored = puts;

@@ -8,4 +8,4 @@ returns c =
     let bytes = c.args.bytes.now in
     let small : AreBytes bytes = λ i. let h = c.type_inv.bytes i in omega (arith, h) in
     let whole_proof = whole bytes small c.requires in
-    record { proof = whole_proof.is; room = whole_proof.room }
+    record { proof = whole_proof.is; space = whole_proof.space }

@@ -16,4 +16,4 @@ pub returns-clause-few : goal.returns-clause-few
 returns-clause-few c = omega (arith, spot_each c.args.dictionary.now c.args.query.now c.loop-i.spots.items (returns-clause-spots c), c.len-i-end.ensures.query.few)
 
 pub returns-clause-low : goal.returns-clause-low
-returns-clause-low c = lowers c.args.dictionary.now c.args.query.now c.loop-i.spots.items c.len.ensures.kept.few (returns-clause-spots c)
+returns-clause-low c = lowers c.args.dictionary.now c.args.query.now c.loop-i.spots.items c.len.ensures.holds.few (returns-clause-spots c)

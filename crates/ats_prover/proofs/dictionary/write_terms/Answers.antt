@@ -14,7 +14,7 @@ use Rattle.ats_prover.proofs.dictionary.write_terms.Goals as goal
 
 pub write_rest-requires-clause-nodes : goal.write_rest-requires-clause-nodes
 write_rest-requires-clause-nodes g c =
-    (dict_leaves c.args.dictionary.now, c.requires.nodes, omega (arith, length-dict_leaves c.args.dictionary.now, c.len.ensures.kept.few), λ k d inside. omega (arith, c.requires.within k d inside, length-dict_leaves c.args.dictionary.now))
+    (dict_leaves c.args.dictionary.now, c.requires.nodes, omega (arith, length-dict_leaves c.args.dictionary.now, c.len.ensures.holds.few), λ k d inside. omega (arith, c.requires.within k d inside, length-dict_leaves c.args.dictionary.now))
 
 pub returns-clause-fields : goal.returns-clause-fields
 returns-clause-fields g c =

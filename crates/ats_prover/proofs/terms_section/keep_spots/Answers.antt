@@ -18,4 +18,4 @@ returns-clause-few c = omega (arith, spots_each (IsTermSpot c.args.terms.now) c.
 pub returns-clause-low : goal.returns-clause-low
 returns-clause-low c =
     let items = c.args.terms.now in
-    all_low (IsTermSpot items) (length items) (lower_item items) c.args.present.now c.loop-i.spots.items (omega (arith, c.len.ensures.kept.few)) (returns-clause-spots c)
+    all_low (IsTermSpot items) (length items) (lower_item items) c.args.present.now c.loop-i.spots.items (omega (arith, c.len.ensures.holds.few)) (returns-clause-spots c)

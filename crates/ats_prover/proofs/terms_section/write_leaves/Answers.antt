@@ -10,7 +10,7 @@ use Rattle.ats_prover.proofs.Putting.{put_made}
 use Rattle.ats_prover.proofs.terms_section.write_leaves.Goals as goal
 
 pub term_leaf-requires-clause-few : goal.term_leaf-requires-clause-few
-term_leaf-requires-clause-few c = omega (arith, c.loop-p.invariant.size, c.requires.room, c.requires.few, c.loop-p-test.true, c.term.ensures.few)
+term_leaf-requires-clause-few c = omega (arith, c.loop-p.invariant.size, c.requires.space, c.requires.few, c.loop-p-test.true, c.term.ensures.few)
 
 pub loop-p-preserved : goal.loop-p-preserved
 loop-p-preserved c =

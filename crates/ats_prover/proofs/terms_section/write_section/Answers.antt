@@ -34,5 +34,5 @@ returns-clause-written g c =
     let Fields : List ℕ → List Spot → Written = λ (ps : List ℕ) (ss : List Spot).
     put c.args.writer.now (counted 2 term_fields (map (shown_term items) ps) ++ counted 2 digest_fields (elided_digests H (terms_leaves items) ps) ++ flat_map slot_fields (map (slot_of ps) ss)) in
     on_ok_weaker c.write_shown.result (λ is.
-    written_section H g.H.HashKind.sized items c.args.present.now spots positions c.args.writer.now c.write_shown.new.writer c.len-2.ensures.kept c.requires.some c.len.ensures.rise
+    written_section H g.H.HashKind.sized items c.args.present.now spots positions c.args.writer.now c.write_shown.new.writer c.len-2.ensures.holds c.requires.some c.len.ensures.rise
     c.in_ok-keep_spots.ensures.spots needed few (is ∙ ap₂ Fields c.deref-2.ensures.value c.deref-3.ensures.value)) c.write_shown.ensures.fields

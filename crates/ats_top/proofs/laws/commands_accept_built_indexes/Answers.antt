@@ -2,7 +2,7 @@ use Rattle.std.proofs.Common.{codes, refl, inr}
 use Rattle.ats_proof.specs.declared.record.Algorithm.TheVariants.{Tnra}
 use Rattle.ats_terms.specs.Terms.{terms}
 use Rattle.ats_terms.specs.Query.{IsQueryOf, counted}
-use Rattle.ats_console.specs.Words.{Prove, Root, Migrate}
+use Rattle.ats_console.specs.Words.{Prove, Root, Migrate, Maker}
 use Rattle.ats_console.proofs.Public.{made_short}
 use Rattle.ats_top.proofs.BuiltAccepted.{has_index, none_too_long}
 use Rattle.ats_top.proofs.HonestAccepted.{audit_steps_hold}
@@ -12,7 +12,7 @@ use Rattle.ats_top.proofs.laws.commands_accept_built_indexes.Goals as goal
 pub returns-clause-root : goal.returns-clause-root
 returns-clause-root g c archive bytes files name spelling held =
     let index = has_index g.H.HashKind.hash g.H.HashKind.sized files archive bytes name spelling held in
-    (Root (record { index = name }), refl, inr (index.bytes, index.file, (archive, index.spelling, tt)))
+    (Maker (Root (record { index = name })), refl, inr (index.bytes, index.file, (archive, index.spelling, tt)))
 
 pub returns-clause-prove : goal.returns-clause-prove
 returns-clause-prove g c archive bytes files name spelling held rows r query proof is_rows asks =
@@ -20,7 +20,7 @@ returns-clause-prove g c archive bytes files name spelling held rows r query pro
     let index = has_index H g.H.HashKind.sized files archive bytes name spelling held in
     let asked : IsQueryOf query (counted (terms query)) = record { has = asks.query; same = refl } in
     let none = none_too_long H g.H.HashKind.sized files archive bytes name spelling held query (counted (terms query)) rows asked asks.rows.few in (
-      Prove (record { index = name; algorithm = Tnra; r = rows; query = query; proof = proof }),
+      Maker (Prove (record { index = name; algorithm = Tnra; r = rows; query = query; proof = proof })),
       prove_said name (codes "tnra") r query proof Tnra rows refl is_rows,
       (asks.rows, (counted (terms query), asked, inr (index.bytes, index.file, (archive, index.spelling, (none, λ made is. tt))))),
     )
@@ -30,7 +30,7 @@ returns-clause-either g c archive bytes files name spelling held algorithm asked
     let H = g.H.HashKind.hash in
     let index = has_index H g.H.HashKind.sized files archive bytes name spelling held in
     let none = made_short H archive asked rows algorithm honest (record { proved = proved; short = short }) in (
-      Prove (record { index = name; algorithm = algorithm; r = rows; query = query; proof = proof }),
+      Maker (Prove (record { index = name; algorithm = algorithm; r = rows; query = query; proof = proof })),
       prove_said name word r query proof algorithm rows is_algorithm is_rows,
       (within, (asked, is_query, inr (index.bytes, index.file, (archive, index.spelling, (none, λ made is. tt))))),
     )
@@ -38,7 +38,7 @@ returns-clause-either g c archive bytes files name spelling held algorithm asked
 pub returns-clause-migrate : goal.returns-clause-migrate
 returns-clause-migrate g c archive bytes files name migrated spelling held =
     let index = has_index g.H.HashKind.hash g.H.HashKind.sized files archive bytes name spelling held in
-    (Migrate (record { index = name; migrated = migrated }), refl, inr (index.bytes, index.file, (archive, index.spelling, λ made is. tt)))
+    (Maker (Migrate (record { index = name; migrated = migrated })), refl, inr (index.bytes, index.file, (archive, index.spelling, λ made is. tt)))
 
 pub returns-clause-serve : goal.returns-clause-serve
 returns-clause-serve g c archive bytes files words spelling held =

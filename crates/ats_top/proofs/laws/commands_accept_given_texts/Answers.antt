@@ -2,7 +2,7 @@ use Rattle.std.proofs.Common.{inr}
 use Rattle.ats_commit.specs.Root.{root_of}
 use Rattle.ats_fetch.specs.Given.{given_text}
 use Rattle.ats_fetch.proofs.Public.{given-accepted, given-none}
-use Rattle.ats_console.specs.Words.{Fetch}
+use Rattle.ats_console.specs.Words.{Fetch, Checker}
 use Rattle.ats_console.proofs.Public.{texts_of}
 use Rattle.ats_top.proofs.SaidWords.{fetch_said}
 use Rattle.ats_top.proofs.laws.commands_accept_given_texts.Goals as goal
@@ -11,7 +11,7 @@ pub returns-clause-fetch : goal.returns-clause-fetch
 returns-clause-fetch g c archive doc bytes files root word name texts inside given file is_root is_doc =
     let H = g.H.HashKind.hash in
     let accepted = given-accepted H g.H.HashKind.sized archive doc texts inside in (
-      Fetch (record { root = root_of H archive; doc = doc; file = name }),
+      Checker (Fetch (record { root = root_of H archive; doc = doc; file = name })),
       fetch_said root (root_of H archive) word name doc is_root is_doc,
       inr (bytes, file, (given_text H archive doc, record { says = given; accepts = accepted }, tt)),
     )

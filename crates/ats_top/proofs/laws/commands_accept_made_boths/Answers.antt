@@ -1,6 +1,6 @@
 use Rattle.std.proofs.Common.{inr}
 use Rattle.ats_commit.specs.Root.{root_of}
-use Rattle.ats_console.specs.Words.{Both}
+use Rattle.ats_console.specs.Words.{Both, Checker}
 use Rattle.ats_makers.proofs.Public.{both_short}
 use Rattle.ats_top.proofs.BothAccepted.{bytes_accepted, made_unclashing}
 use Rattle.ats_top.proofs.SaidWords.{both_said}
@@ -13,7 +13,7 @@ returns-clause-prove g c archive asked bytes files words index is_query proved s
 pub returns-clause-both : goal.returns-clause-both
 returns-clause-both g c archive asked bytes files root query name is_query proved file is_root =
     let H = g.H.HashKind.hash in (
-      Both (record { root = root_of H archive; query = query; proof = name }),
+      Checker (Both (record { root = root_of H archive; query = query; proof = name })),
       both_said root (root_of H archive) query name is_root,
       (asked, is_query, inr (bytes, file, (proved.proof, bytes_accepted H archive asked bytes proved, tt))),
     )

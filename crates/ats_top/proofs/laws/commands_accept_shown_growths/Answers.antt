@@ -2,7 +2,7 @@ use Rattle.std.proofs.Common.{inr}
 use Rattle.ats_commit.specs.Root.{root_of}
 use Rattle.ats_growth.specs.Honest.{honest}
 use Rattle.ats_growth.proofs.Public.{honest_accepted, honest-none}
-use Rattle.ats_console.specs.Words.{Growth}
+use Rattle.ats_console.specs.Words.{Growth, Checker}
 use Rattle.ats_console.proofs.Public.{texts_of}
 use Rattle.ats_top.proofs.SaidWords.{growth_said}
 use Rattle.ats_top.proofs.laws.commands_accept_shown_growths.Goals as goal
@@ -14,7 +14,7 @@ returns-clause-grow g c older newer files words old new kept =
 pub returns-clause-growth : goal.returns-clause-growth
 returns-clause-growth g c older newer bytes files old new name old_texts new_texts kept shown file is_old is_new =
     let H = g.H.HashKind.hash in (
-      Growth (record { old = root_of H older; new = root_of H newer; file = name }),
+      Checker (Growth (record { old = root_of H older; new = root_of H newer; file = name })),
       growth_said old (root_of H older) new (root_of H newer) name is_old is_new,
       inr (bytes, file, (honest H older newer, record { says = shown; accepts = honest_accepted H older newer kept old_texts.within.some }, tt)),
     )

@@ -2,7 +2,7 @@ use Rattle.std.proofs.Common.{◌≡◌, ◌∙◌, sym, ap}
 use Rattle.ats_commit.specs.Archive.{Archive}
 use Rattle.ats_index.specs.Spelling.{index_bytes}
 use Rattle.ats_index.proofs.Public.{one_archive}
-use Rattle.ats_makers.specs.Commands.Migrate.{in_blocks}
+use Rattle.ats_makers.specs.Commands.{in_blocks}
 use Rattle.ats_top.proofs.laws.migrated_indexes_stay.Goals as goal
 
 pub returns : goal.returns

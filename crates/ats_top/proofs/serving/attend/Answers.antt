@@ -34,7 +34,7 @@ returns-then-is_err-2 g c files name has =
     let listened : Listened c.args.address.now (g.D.Door.told c.args.door.now) opened = record {
       content = ok_part c.listen.result (sym c.is_err.ensures.value ∙ c.if-is_err.false) c.listen.ensures.ok;
       broken = c.listen.ensures.broken;
-      kept = ok_part c.listen.result (sym c.is_err.ensures.value ∙ c.if-is_err.false) c.listen.ensures.cause.kept;
+      same = ok_part c.listen.result (sym c.is_err.ensures.value ∙ c.if-is_err.false) c.listen.ensures.cause.same;
     } in (
       [],
       codes "listening\n",
@@ -56,9 +56,9 @@ returns g c files name has =
     let listened : Listened c.args.address.now (g.D.Door.told c.args.door.now) opened = record {
       content = ok_part c.listen.result (sym c.is_err.ensures.value ∙ c.if-is_err.false) c.listen.ensures.ok;
       broken = c.listen.ensures.broken;
-      kept = ok_part c.listen.result (sym c.is_err.ensures.value ∙ c.if-is_err.false) c.listen.ensures.cause.kept;
+      same = ok_part c.listen.result (sym c.is_err.ensures.value ∙ c.if-is_err.false) c.listen.ensures.cause.same;
     } in
     attends g.H.HashKind.hash files words c.args.index.now has (g.D.Door.told c.args.door.now) opened listened
     (g.K.Sink.told c.args.out.now) (g.K.Sink.told c.write_all.new.sink) _ c.serve_links.result
     (took_as (g.K.Sink.told c.args.out.now) (g.K.Sink.told c.write_all.new.sink) _ _ c.as_bytes.ensures.value
-    (ok_part c.write_all.result done c.write_all.ensures.all) (ok_part c.write_all.result done c.write_all.ensures.cause.kept)) c.serve_links.ensures
+    (ok_part c.write_all.result done c.write_all.ensures.all) (ok_part c.write_all.result done c.write_all.ensures.cause.same)) c.serve_links.ensures

@@ -48,7 +48,7 @@ part-left-requires g t c κs within =
     in let placed = left-placed c.args.n c.cut_of-k.result c.args.depth c.args.turns c.requires.placed c.cut_of-k.ensures.power c.cut_of-k.ensures.below c.cut_of-k.ensures.largest
     in let enough : need (tree_of (places c.args.from c.cut_of-k.result (g.F.Feed.leaves c.args.feed.now))) ≤ length (g.F.Feed.others c.args.feed.now) =
     omega (arith, need-cut _ _ _ _ cut, c.requires.enough)
-    in let more : c.args.steps.now + 5 * c.cut_of-k.result < 2 ^ 64 = omega (arith, c.requires.room, c.cut_of-k.ensures.below)
+    in let more : c.args.steps.now + 5 * c.cut_of-k.result < 2 ^ 64 = omega (arith, c.requires.space, c.cut_of-k.ensures.below)
     in (omega arith, (search rules, (search rules, (search rules, (search rules, (omega arith, (omega arith, (placed, (c.requires.rising, (enough, (c.requires.fit, more)))))))))))
 
 pub part-right-requires : goal.part-right-requires
@@ -64,7 +64,7 @@ part-right-requires g t c κs within =
     (g.F.Feed.others c.args.feed.now) (g.F.Feed.others c.part-left.new.feed) c.part-left.result.digest cut left c.requires.enough
     in let fit : All (λ (s : Shown). g.S.Preimage.fits s.1) (g.F.Feed.leaves c.part-left.new.feed) =
     rw left.leaves_left (All-from (λ (s : Shown). g.S.Preimage.fits s.1) (c.args.from + c.cut_of-k.result) _ c.requires.fit)
-    in let more : c.part-left.new.steps + 5 * (c.args.n - c.cut_of-k.result) < 2 ^ 64 = omega (arith, c.part-left.ensures.cost, c.requires.room)
+    in let more : c.part-left.new.steps + 5 * (c.args.n - c.cut_of-k.result) < 2 ^ 64 = omega (arith, c.part-left.ensures.cost, c.requires.space)
     in (omega arith, (search rules, (search rules, (search rules, (search rules, (omega arith, (omega arith, (placed, (rises, (enough, (fit, more)))))))))))
 
 -- both parts

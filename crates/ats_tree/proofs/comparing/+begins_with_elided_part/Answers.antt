@@ -100,8 +100,8 @@ begins_with_elided_part-requires-2 g t c κs within =
     in let theirs : All HasSize (g.S.ShownTree.digests c.begins_with_elided_part.new.shown) =
     subst (All HasSize) (sym (c.begins_with_elided_part.ensures.left c.if-not-begins_with_elided_part.false))
     (All-drop HasSize _ (g.S.ShownTree.digests c.args.shown.now) c.requires.theirs)
-    in let room : c.begins_with_elided_part.new.steps + (c.args.n - k) < 2 ^ 64 = omega (arith, c.begins_with_elided_part.ensures.cost, c.cut_of-k.ensures.below)
-    in (omega arith, (within, (omega arith, (part.0, (part.1, (omega arith, (rises, (theirs, room))))))))
+    in let space : c.begins_with_elided_part.new.steps + (c.args.n - k) < 2 ^ 64 = omega (arith, c.begins_with_elided_part.ensures.cost, c.cut_of-k.ensures.below)
+    in (omega arith, (within, (omega arith, (part.0, (part.1, (omega arith, (rises, (theirs, space))))))))
 
 -- two parts
 pub returns-clause-exact : goal.returns-clause-exact

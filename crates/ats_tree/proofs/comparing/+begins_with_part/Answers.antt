@@ -69,8 +69,8 @@ begins_with_part-requires-in-Some g t c κs within =
     rw left (rises-from c.args.from (c.args.from + k) _ c.requires.rising)
     in let short : All (λ (s : Shown). length s.1 ≤ 127) (g.S.ShownTree.shown c.begins_with_part.new.shown) =
     rw left (All-from (λ (s : Shown). length s.1 ≤ 127) (c.args.from + k) _ c.requires.short)
-    in let room : c.begins_with_part.new.steps + (c.args.n - k) < 2 ^ 64 = omega (arith, c.begins_with_part.ensures.cost, c.cut_of-k.ensures.below)
-    in (omega arith, (within.0, (within.1, (omega arith, (part.0, (part.1, (omega arith, (omega arith, (rises, (short, room))))))))))
+    in let space : c.begins_with_part.new.steps + (c.args.n - k) < 2 ^ 64 = omega (arith, c.begins_with_part.ensures.cost, c.cut_of-k.ensures.below)
+    in (omega arith, (within.0, (within.1, (omega arith, (part.0, (part.1, (omega arith, (omega arith, (rises, (short, space))))))))))
 
 pub returns-else-not-begins_with_part-clause-exact : goal.returns-else-not-begins_with_part-clause-exact
 returns-else-not-begins_with_part-clause-exact g t c =

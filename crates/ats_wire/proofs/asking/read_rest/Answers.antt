@@ -7,9 +7,9 @@ use Rattle.ats_wire.proofs.asking.read_rest.Goals as goal
 pub pieces-init : goal.pieces-init
 pieces-init g c = rw c.new-bytes.ensures (record { few = omega arith; moved = moves_none (g.L.Link.told c.args.link.now) })
 
-pub returns-in_err-room-clause-err : goal.returns-in_err-room-clause-err
-returns-in_err-room-clause-err g c =
-    let failed = c.in_err-room.ensures.err in
+pub returns-in_err-count-clause-err : goal.returns-in_err-count-clause-err
+returns-in_err-count-clause-err g c =
+    let failed = c.in_err-count.ensures.err in
     let told = err_from_is_err_and c.from_residual.result c.from_residual.ensures.1 in
     rw (told.1, told.2) (
       c.pieces.bytes ++ failed.0,
@@ -20,10 +20,10 @@ returns-in_err-room-clause-err g c =
 pub returns-then-is_err-clause-err : goal.returns-then-is_err-clause-err
 returns-then-is_err-clause-err g c =
     let bytes : List ℕ = c.pieces.bytes in
-    let read = c.in_ok-room.ensures.ok in
-    let came : List ℕ = take c.in_ok-room.room c.read_piece.new.piece in (
+    let read = c.in_ok-count.ensures.ok in
+    let came : List ℕ = take c.in_ok-count.count c.read_piece.new.piece in (
       bytes ++ came,
       moves_idle _ _ _ _ (moves_then (g.L.Link.told c.args.link.now) (g.L.Link.told c.pieces.link) (g.L.Link.told c.read_piece.new.link) bytes [] came [] 0
           c.pieces.invariant.moved read.3),
-      omega (arith, length-append bytes came, length-take-le c.in_ok-room.room c.read_piece.new.piece read.1, read.2),
+      omega (arith, length-append bytes came, length-take-le c.in_ok-count.count c.read_piece.new.piece read.1, read.2),
     )

@@ -10,7 +10,7 @@ reads-preserved g c =
     let buf = c.reads.buf in
     let new = c.read_some.new.buf in
     let joined = took_mid done n buf new c.reads.invariant.few c.in-Ok.ensures.within in
-    let step = moves_read (g.L.Link.told c.reads.link) (g.L.Link.told c.read_some.new.self) new n c.in-Ok.ensures.within (omega (arith, c.if-count-eq0.false)) c.in-Ok.ensures.bytes c.in-Ok.ensures.counted c.in-Ok.ensures.cause.kept in
+    let step = moves_read (g.L.Link.told c.reads.link) (g.L.Link.told c.read_some.new.self) new n c.in-Ok.ensures.within (omega (arith, c.if-count-eq0.false)) c.in-Ok.ensures.bytes c.in-Ok.ensures.counted c.in-Ok.ensures.cause.same in
     record {
       few = grind (arith, common_steps, c.in-Ok.ensures.within);
       small = λ i. let h = c.type_inv.buf i in omega (arith, h);

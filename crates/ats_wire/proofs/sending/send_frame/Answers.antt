@@ -9,7 +9,7 @@ pub returns-in_err-send-clause-part : goal.returns-in_err-send-clause-part
 returns-in_err-send-clause-part g c =
     let bytes : List ℕ = c.args.bytes.now in
     let front = c.pack-front.result in
-    let piece : List ℕ = take (front + 5) c.pack-front.new.room in
+    let piece : List ℕ = take (front + 5) c.pack-front.new.buffer in
     let before = g.L.Link.told c.args.link.now in
     let now = g.L.Link.told c.send.new.link in
     let whole : piece ++ drop front bytes ≡ framed (c.args.kind ∷ bytes) = frame_sent piece bytes c.args.kind front c.pack-front.ensures.packed in
@@ -19,7 +19,7 @@ pub returns-clause-part : goal.returns-clause-part
 returns-clause-part g c =
     let bytes : List ℕ = c.args.bytes.now in
     let front = c.pack-front.result in
-    let piece : List ℕ = take (front + 5) c.pack-front.new.room in
+    let piece : List ℕ = take (front + 5) c.pack-front.new.buffer in
     let whole : piece ++ drop front bytes ≡ framed (c.args.kind ∷ bytes) = frame_sent piece bytes c.args.kind front c.pack-front.ensures.packed in
     cut_rest c.send-2.result (g.L.Link.told c.args.link.now) (g.L.Link.told c.send.new.link) (g.L.Link.told c.send-2.new.link)
     piece (take (length bytes - front) (drop front bytes)) (framed (c.args.kind ∷ bytes))

@@ -30,16 +30,16 @@ returns-then-is_err-clause-served g c =
     let read = g.L.Link.told c.read_frame.new.link in
     let now = g.L.Link.told c.answer_frame.new.link in
     let size = c.in-Ok.size in
-    let room : List ℕ = c.read_frame.new.room in
+    let buffer : List ℕ = c.read_frame.new.buffer in
     let came = c.in-Ok.ensures.frame in
     let so_far = c.turns.invariant.answered in
     let cut = err_part c.answer_frame.result (sym c.is_err.ensures.value ∙ c.if-is_err.true) c.answer_frame.ensures.part in
     let same : IsCutReply gives read now (take size c.deref_mut-in-turns.result.now) =
     (cut.0, answers_same (g.A.Answerer.gives c.turns.answerer) gives _ cut.0 c.turns.invariant.same cut.1, cut.2) in
-    let of_room : IsCutReply gives read now (take size room) = subst (λ (r : List ℕ). IsCutReply gives read now (take size r)) c.deref_mut-in-turns.ensures.value same in
-    let long : length (take size room) ≡ size = length-take-le size room (omega (arith, came.0.1, c.read_frame.auto.room)) in
-    cut_turn gives (g.L.Link.told c.args.link.now) (g.L.Link.told c.turns.link) read now so_far.0 (take size room) c.turns.requests so_far.1 c.turns-test.true
-    so_far.2 so_far.3 (omega (arith, long, came.0.0), omega (arith, long, came.0.1)) came.1 of_room
+    let of_buffer : IsCutReply gives read now (take size buffer) = subst (λ (r : List ℕ). IsCutReply gives read now (take size r)) c.deref_mut-in-turns.ensures.value same in
+    let long : length (take size buffer) ≡ size = length-take-le size buffer (omega (arith, came.0.1, c.read_frame.auto.buffer)) in
+    cut_turn gives (g.L.Link.told c.args.link.now) (g.L.Link.told c.turns.link) read now so_far.0 (take size buffer) c.turns.requests so_far.1 c.turns-test.true
+    so_far.2 so_far.3 (omega (arith, long, came.0.0), omega (arith, long, came.0.1)) came.1 of_buffer
 
 pub turns-preserved : goal.turns-preserved
 turns-preserved g c =
@@ -47,20 +47,20 @@ turns-preserved g c =
     let read = g.L.Link.told c.read_frame.new.link in
     let now = g.L.Link.told c.answer_frame.new.link in
     let size = c.in-Ok.size in
-    let room : List ℕ = c.read_frame.new.room in
+    let buffer : List ℕ = c.read_frame.new.buffer in
     let came = c.in-Ok.ensures.frame in
     let so_far = c.turns.invariant.answered in
     let sent = ok_part c.answer_frame.result (sym c.is_err.ensures.value ∙ c.if-is_err.false) c.answer_frame.ensures.all in
     let same : IsReplied gives read now (take size c.deref_mut-in-turns.result.now) =
     (sent.0, answers_same (g.A.Answerer.gives c.turns.answerer) gives _ sent.0 c.turns.invariant.same sent.1, sent.2) in
-    let of_room : IsReplied gives read now (take size room) = subst (λ (r : List ℕ). IsReplied gives read now (take size r)) c.deref_mut-in-turns.ensures.value same in
-    let long : length (take size room) ≡ size = length-take-le size room (omega (arith, came.0.1, c.read_frame.auto.room)) in
+    let of_buffer : IsReplied gives read now (take size buffer) = subst (λ (r : List ℕ). IsReplied gives read now (take size r)) c.deref_mut-in-turns.ensures.value same in
+    let long : length (take size buffer) ≡ size = length-take-le size buffer (omega (arith, came.0.1, c.read_frame.auto.buffer)) in
     record {
       few = omega (arith, c.turns-test.true);
       same = λ question reply.
-          let kept = c.answer_frame.ensures.kept question reply in
+          let still = c.answer_frame.ensures.still question reply in
           let was = c.turns.invariant.same question reply in
-          (λ given. was.0 (kept.0 given), λ given. kept.1 (was.1 given));
-      answered = one_more gives (g.L.Link.told c.args.link.now) (g.L.Link.told c.turns.link) read now so_far.0 (take size room) c.turns.requests so_far.1
-          so_far.2 so_far.3 (omega (arith, long, came.0.0), omega (arith, long, came.0.1)) came.1 of_room;
+          (λ given. was.0 (still.0 given), λ given. still.1 (was.1 given));
+      answered = one_more gives (g.L.Link.told c.args.link.now) (g.L.Link.told c.turns.link) read now so_far.0 (take size buffer) c.turns.requests so_far.1
+          so_far.2 so_far.3 (omega (arith, long, came.0.0), omega (arith, long, came.0.1)) came.1 of_buffer;
     }

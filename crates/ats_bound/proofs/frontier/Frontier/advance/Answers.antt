@@ -13,10 +13,10 @@ overflow_add-index_mut c =
     let stage : Stage = record { lanes = whole_lanes c.self.inside.lanes.items; cut = c.self.inside.counts.items } in
     let inside : i < length stage.lanes = subst (λ (s : Stage). i < length s.lanes) (sym c.self.view_is) c.requires.inside in
     let more : IsOpen stage.lanes stage.cut i = subst (λ (s : Stage). IsOpen s.lanes s.cut i) (sym c.self.view_is) c.requires.more in
-    let room : get_or stage.cut i 0 < length (lane_on stage i).entries = next_inside stage i c.self.invariant.stands inside more in
+    let space : get_or stage.cut i 0 < length (lane_on stage i).entries = next_inside stage i c.self.invariant.stands inside more in
     let now : c.index_mut.result.now ≡ get_or stage.cut i 0 = c.index_mut.ensures.value ∙ get_or_default stage.cut i c.index_mut.result.now 0 (omega (arith, inside, c.self.invariant.stands.cut.size)) in
     let few : length (lane_on stage i).entries ≤ 65536 = (whole_on stage i c.self.invariant.stands inside).few in
-    omega (arith, room, now, few)
+    omega (arith, space, now, few)
 
 pub rest-rest-requires-clause-whole : goal.rest-rest-requires-clause-whole
 rest-rest-requires-clause-whole c =
@@ -35,7 +35,7 @@ rest-rest-requires-clause-most c =
     let more : IsOpen stage.lanes stage.cut i = subst (λ (s : Stage). IsOpen s.lanes s.cut i) (sym c.self.view_is) c.requires.more in
     let next = next_of c.self.inside.lanes.items c.self.inside.counts.items i c.index_mut.result.now c.index.result.now c.self.invariant.stands inside more c.index_mut.ensures.value c.index.ensures in
     let here : c.index-2.result.now ≡ c.index_mut.result.now + 1 = c.index-2.ensures ∙ get_or-set_same counts i (c.index_mut.result.now + 1) c.index-2.result.now (omega (arith, inside, c.self.invariant.stands.cut.size)) in
-    omega (arith, here, next.room)
+    omega (arith, here, next.space)
 
 pub total-self-inside-requires : goal.total-self-inside-requires
 total-self-inside-requires c =

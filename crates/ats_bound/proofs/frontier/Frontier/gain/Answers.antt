@@ -10,7 +10,7 @@ bounds-list-index c =
     let i : ℕ = c.args.lane in
     let inside : i < length (whole_lanes c.self.inside.lanes.items) = subst (λ (s : Stage). i < length s.lanes) (sym c.self.view_is) c.requires.inside in
     let more : IsOpen (whole_lanes c.self.inside.lanes.items) c.self.inside.counts.items i = subst (λ (s : Stage). IsOpen s.lanes s.cut i) (sym c.self.view_is) c.requires.more in
-    (next_of c.self.inside.lanes.items c.self.inside.counts.items i c.index.result.now c.index-list.result.now c.self.invariant.stands inside more c.index.ensures c.index-list.ensures).room
+    (next_of c.self.inside.lanes.items c.self.inside.counts.items i c.index.result.now c.index-list.result.now c.self.invariant.stands inside more c.index.ensures c.index-list.ensures).space
 
 pub overflow_mul-result : goal.overflow_mul-result
 overflow_mul-result c =

@@ -22,5 +22,5 @@ invariant_of-self-in-Err c =
     let met : List Met = c.self.inside.met.items in
     let size : c.len-slot.result ≡ length met = search rules in
     let back : c.truncate.new.self.items ≡ met = c.truncate.ensures.items ∙ ap (take c.len-slot.result) c.in_ok-push.ensures.items ∙ ap (λ n. take n (met ++ c.args.met ∷ [])) size ∙ take-append_seam met (c.args.met ∷ []) in
-    let slots : c.put.new.self.pages.entries ≡ c.self.inside.slots.pages.entries = c.in-Err.ensures.kept in
+    let slots : c.put.new.self.pages.entries ≡ c.self.inside.slots.pages.entries = c.in-Err.ensures.same in
     rw back (subst (λ (es : List (ℕ × List ℕ)). AreSlots met (λ doc. slot_at (lookup (nat_eq (doc / 64)) es) (doc % 64))) (sym slots) c.self.invariant)

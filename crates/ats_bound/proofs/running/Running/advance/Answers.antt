@@ -2,7 +2,7 @@ use Rattle.std.proofs.Common.{◌<◌, ℕ, length, sym, subst, ◌∙◌}
 use Rattle.ats_bound.specs.Frontier.{Stage}
 use Rattle.ats_bound.specs.Running.{Standing}
 use Rattle.ats_bound.specs.Schedule.{IsOpen}
-use Rattle.ats_bound.proofs.KnownSteps.{next_known, next_room, next_stage}
+use Rattle.ats_bound.proofs.KnownSteps.{next_known, next_space, next_stage}
 use Rattle.ats_bound.proofs.running.Running.advance.Goals as goal
 
 pub meet-requires : goal.meet-requires
@@ -11,7 +11,7 @@ meet-requires c =
     let i : ℕ = c.args.lane in
     let inside : i < length stage.lanes = subst (λ (s : Standing). i < length s.lanes) (sym c.self.view_is) c.requires.inside in
     let more : IsOpen stage.lanes stage.cut i = subst (λ (s : Standing). IsOpen s.lanes s.cut i) (sym c.self.view_is) c.requires.more in
-    next_room stage i c.self.invariant.stands inside more c.self.inside.known c.self.invariant.known c.gain-gain.result.doc c.gain-gain.result.gain c.digit.result
+    next_space stage i c.self.invariant.stands inside more c.self.inside.known c.self.invariant.known c.gain-gain.result.doc c.gain-gain.result.gain c.digit.result
     c.gain-gain.ensures.doc c.gain-gain.ensures.gain c.gain-gain.ensures.few c.digit.ensures
 
 pub look-requires : goal.look-requires

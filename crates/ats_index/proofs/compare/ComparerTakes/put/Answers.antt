@@ -8,8 +8,8 @@ use Rattle.ats_index.proofs.ComparingLemmas.{put_next}
 use Rattle.ats_index.proofs.compare.ComparerTakes.put.Goals as goal
 
 -- what is common is within the bytes that are left
-room : (bytes piece : List ℕ) (same n : ℕ) → same ≤ length bytes → n ≡ common_prefix_len nat_eq (drop same bytes) piece → same + n ≤ length bytes
-room bytes piece same n within is = omega (arith, (common_prefix_len-le nat_eq (drop same bytes) piece).0, length-drop same bytes)
+space : (bytes piece : List ℕ) (same n : ℕ) → same ≤ length bytes → n ≡ common_prefix_len nat_eq (drop same bytes) piece → same + n ≤ length bytes
+space bytes piece same n within is = omega (arith, (common_prefix_len-le nat_eq (drop same bytes) piece).0, length-drop same bytes)
 
 common_is : (bytes piece : List ℕ) (same n : ℕ) → n ≡ common_prefix_len nat_eq (take (length bytes - same) (drop same bytes)) piece
     → n ≡ common_prefix_len nat_eq (drop same bytes) piece
@@ -19,13 +19,13 @@ pub overflow_add-self : goal.overflow_add-self
 overflow_add-self c =
     let bytes : List ℕ = c.args.self.now.bytes.now in
     let n = common_is bytes c.args.piece.now c.args.self.now.same c.common-same.result c.common-same.ensures in
-    omega (arith, room bytes c.args.piece.now c.args.self.now.same c.common-same.result c.args.self.now.within n)
+    omega (arith, space bytes c.args.piece.now c.args.self.now.same c.common-same.result c.args.self.now.within n)
 
 pub invariant_of-self : goal.invariant_of-self
 invariant_of-self c =
     let bytes : List ℕ = c.args.self.now.bytes.now in
     let n = common_is bytes c.args.piece.now c.args.self.now.same c.common-same.result c.common-same.ensures in
-    record { within = room bytes c.args.piece.now c.args.self.now.same c.common-same.result c.args.self.now.within n }
+    record { within = space bytes c.args.piece.now c.args.self.now.same c.common-same.result c.args.self.now.within n }
 
 pub returns-then-not-self : goal.returns-then-not-self
 returns-then-not-self c about front is =

@@ -14,5 +14,5 @@ returns c =
     let some = some_left s.at s.left (met_of s) entries c.requires in
     let back : c.split_at-2.result.0.now ≡ take 2 (drop 4 entries) = c.split_at-2.ensures.front ∙ ap (take 2) c.split_at.ensures.back in
     ap (λ (xs : List ℕ). id_front s.ids.now entries ++ xs) back
-    ∙ named_bytes s.met s.ids.now entries (first_named s.met s.left entries some s.named) s.ids_room (omega (arith, some, s.room)) c.are_bytes.ensures c.are_bytes-2.ensures
+    ∙ named_bytes s.met s.ids.now entries (first_named s.met s.left entries some s.named) s.ids_space (omega (arith, some, s.space)) c.are_bytes.ensures c.are_bytes-2.ensures
     ∙ ap (λ es. first_leaf (shown_list s.at (met_of s) es)) (sym (parts_more posting_size posting_in s.left entries some))

@@ -12,8 +12,8 @@ invariant_of-self c =
     let some : 0 < s.left = some_left s.at s.left (met_of s) s.entries.now c.requires.left in
     record {
       few = omega (arith, some, s.few);
-      room = rw c.split_at.ensures.back (omega (arith, some, s.room, length-drop 6 s.entries.now));
-      ids_room = s.ids_room;
+      space = rw c.split_at.ensures.back (omega (arith, some, s.space, length-drop 6 s.entries.now));
+      ids_space = s.ids_space;
       named = rw c.split_at.ensures.back (rest_named s.met s.left s.entries.now some s.named);
     }
 

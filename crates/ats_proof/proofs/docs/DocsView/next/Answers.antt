@@ -10,8 +10,8 @@ invariant_of-self c =
     let view = c.args.self.now in
     let some : 0 < view.left = omega (arith, c.if-self-eq0.false) in
     record {
-      ids_room = rw c.split_at.ensures.back (omega (arith, some, view.ids_room, length-drop 4 view.ids.now));
-      leaves_room = rw c.split_at-2.ensures.back (omega (arith, some, view.leaves_room, length-drop 36 view.leaves.now));
+      ids_space = rw c.split_at.ensures.back (omega (arith, some, view.ids_space, length-drop 4 view.ids.now));
+      leaves_space = rw c.split_at-2.ensures.back (omega (arith, some, view.leaves_space, length-drop 36 view.leaves.now));
       fits = rw c.cut.ensures.rest (rest_fits (section_size view.present) view.left view.sections.now some view.fits);
       rise = rw c.cut.ensures.rest (rest_sections_rise view.present view.left view.sections.now some view.rise);
     }

@@ -10,8 +10,8 @@ invariant_of-self c =
     let s = c.args.self.now in
     let some = docs_left s.left s.ids.now s.leaves.now c.requires.left in
     record {
-      ids_room = rw c.split_at.ensures.back (omega (arith, some, s.ids_room, length-drop 4 s.ids.now));
-      leaves_room = rw c.split_at-2.ensures.back (omega (arith, some, s.leaves_room, length-drop 36 s.leaves.now));
+      ids_space = rw c.split_at.ensures.back (omega (arith, some, s.ids_space, length-drop 4 s.ids.now));
+      leaves_space = rw c.split_at-2.ensures.back (omega (arith, some, s.leaves_space, length-drop 36 s.leaves.now));
       rises = rw c.split_at.ensures.back (rest_ids_rise s.left s.ids.now some s.rises);
     }
 

@@ -19,6 +19,6 @@ returns-clause-whole c =
 pub returns-clause-size : goal.returns-clause-size
 returns-clause-size c =
     let run = c.args.self.now in
-    let room = first_fits (leaf_size run.behind) run.left run.bytes.now c.requires run.fits in
+    let space = first_fits (leaf_size run.behind) run.left run.bytes.now c.requires run.fits in
     rw c.cut_leaf.ensures.back (length-take-le run.behind (drop (5 + term_length_in run.bytes.now) run.bytes.now)
-    (omega (arith, room, length-drop (5 + term_length_in run.bytes.now) run.bytes.now)))
+    (omega (arith, space, length-drop (5 + term_length_in run.bytes.now) run.bytes.now)))

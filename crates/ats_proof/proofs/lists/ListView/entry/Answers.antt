@@ -10,10 +10,10 @@ nth-entry-requires-clause-within c =
     omega (arith, c.requires.within, length-parts posting_size posting_in c.args.self.now.count c.args.self.now.entries.now)
 
 pub split_at-requires : goal.split_at-requires
-split_at-requires c = omega (arith, c.nth-entry.ensures.room)
+split_at-requires c = omega (arith, c.nth-entry.ensures.space)
 
 pub number_2-requires : goal.number_2-requires
-number_2-requires c = rw c.split_at.ensures.back (omega (arith, c.nth-entry.ensures.room, length-drop 4 c.nth-entry.result.now))
+number_2-requires c = rw c.split_at.ensures.back (omega (arith, c.nth-entry.ensures.space, length-drop 4 c.nth-entry.result.now))
 
 pub returns-clause-entry : goal.returns-clause-entry
 returns-clause-entry c =

@@ -6,7 +6,7 @@ use Rattle.ats_proof.specs.Reading.{id_size, id_in}
 use Rattle.ats_proof.specs.Runs.{shown_list}
 use Rattle.ats_proof.specs.SeenLists.{list_of}
 use Rattle.ats_proof.specs.Value.{Proof}
-use Rattle.ats_proof.proofs.Showing.{ids_room, ids_shown, ids_count}
+use Rattle.ats_proof.proofs.Showing.{ids_space, ids_shown, ids_count}
 use Rattle.ats_proof.proofs.lists.ListView.revealed.Goals as goal
 
 pub invariant_of-result : goal.invariant_of-result
@@ -15,8 +15,8 @@ invariant_of-result c =
     let view = c.proof.inside in
     record {
       few = omega arith;
-      room = list.room;
-      ids_room = rw c.split_at.ensures.back (ids_room view c.proof.invariant);
+      space = list.space;
+      ids_space = rw c.split_at.ensures.back (ids_space view c.proof.invariant);
       named = subst (λ (n : ℕ). All (λ (e : Entry). e.doc < n) (list_of list).entries) (sym (ap (λ (p : Proof). length p.met) c.proof.view_is) ∙ ids_count view c.proof.invariant) c.requires;
     }
 

@@ -12,19 +12,19 @@ pub sections_at-sections-requires-clause-at : goal.sections_at-sections-requires
 sections_at-sections-requires-clause-at c = doc_digests_begin c.args.bytes.now c.args.docs c.args.met c.requires.docs c.requires.met
 
 pub split_at-requires : goal.split_at-requires
-split_at-requires c = omega (arith, c.sections_at-sections.ensures, c.requires.room)
+split_at-requires c = omega (arith, c.sections_at-sections.ensures, c.requires.space)
 
 pub sections_size-requires : goal.sections_size-requires
 sections_size-requires c =
     let bytes = c.args.bytes.now in
-    rw (c.split_at.ensures.back, c.sections_at-sections.ensures, c.requires.present, c.requires.met) (omega (arith, c.requires.room, length-drop (sections_place bytes) bytes))
+    rw (c.split_at.ensures.back, c.sections_at-sections.ensures, c.requires.present, c.requires.met) (omega (arith, c.requires.space, length-drop (sections_place bytes) bytes))
 
 pub overflow_add-result : goal.overflow_add-result
 overflow_add-result c =
     let bytes = c.args.bytes.now in
     let last = c.split_at.ensures.back ∙ ap (λ (n : ℕ). drop n bytes) c.sections_at-sections.ensures in
     let size = c.sections_size.ensures ∙ ap₃ (λ p n xs. total_size (section_size p) n xs) c.requires.present c.requires.met last in
-    omega (arith, c.sections_at-sections.ensures, size, c.requires.room, c.requires.few)
+    omega (arith, c.sections_at-sections.ensures, size, c.requires.space, c.requires.few)
 
 pub returns : goal.returns
 returns c =

@@ -8,15 +8,15 @@ use Rattle.ats_proof.proofs.Taking.{part_at, total_fixed}
 use Rattle.ats_proof.proofs.Answering.{answer_at}
 use Rattle.ats_proof.proofs.view.ProofView.answer.Goals as goal
 
-pub nth-requires-clause-room : goal.nth-requires-clause-room
-nth-requires-clause-room c =
+pub nth-requires-clause-space : goal.nth-requires-clause-space
+nth-requires-clause-space c =
     let bytes = c.self.inside.bytes.now in
     let place = answer_place (is_tra bytes) bytes in
     let rows = drop place bytes in
     let at = answer_at c.self.inside c.self.invariant in
     let count = length-parts id_size id_in (number_in 2 rows) (drop 2 rows) in
     let fours = total_fixed 4 (λ b. b) (number_in 2 rows) (drop 2 rows) in
-    rw c.split_at.ensures.back (omega (arith, at, count, fours, c.answers.ensures, c.self.invariant.room.answer, ap (λ (p : Proof). length p.answer) c.self.view_is, length-drop (c.self.inside.ended.answer + 2) bytes))
+    rw c.split_at.ensures.back (omega (arith, at, count, fours, c.answers.ensures, c.self.invariant.space.answer, ap (λ (p : Proof). length p.answer) c.self.view_is, length-drop (c.self.inside.ended.answer + 2) bytes))
 
 pub returns-clause-row : goal.returns-clause-row
 returns-clause-row c =

@@ -15,7 +15,7 @@ invariant_of-leaves c =
     let left : c.from-left.result ≡ number_in 2 (drop 113 bytes) = c.from-left.ensures ∙ c.number_2.ensures ∙ ap (number_in 2) c.split_at.ensures.back in
     let two = drop-drop 2 113 bytes in
     record {
-      fits = rw (left, c.split_at-3.ensures.back, ← two) (omega (arith, c.self.invariant.room.docs, length-drop 2 (drop 113 bytes), length-drop 113 bytes));
+      fits = rw (left, c.split_at-3.ensures.back, ← two) (omega (arith, c.self.invariant.space.docs, length-drop 2 (drop 113 bytes), length-drop 113 bytes));
       rises = rw (left, c.split_at-3.ensures.back, ← two)
           (subst IsStrictlyIncreasing (leaf_positions 36 entry_in (λ e. e.position) (λ _. refl) (number_in 2 (drop 113 bytes)) (drop 2 (drop 113 bytes))) (in_range bytes (proof_in bytes) c.self.invariant.spelled).terms.rises);
     }

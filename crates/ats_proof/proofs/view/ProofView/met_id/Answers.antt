@@ -3,15 +3,15 @@ use Rattle.std.proofs.lemmas.List.{drop-drop}
 use Rattle.ats_proof.specs.Reading.{id_in, met_place}
 use Rattle.ats_proof.specs.Value.{IsProof, Proof}
 use Rattle.ats_proof.proofs.Taking.{part_at}
-use Rattle.ats_proof.proofs.Showing.{ids_room, ids_shown, ids_count}
+use Rattle.ats_proof.proofs.Showing.{ids_space, ids_shown, ids_count}
 use Rattle.ats_proof.proofs.Unique.{one_join}
 use Rattle.ats_proof.proofs.view.ProofView.met_id.Goals as goal
 
 pub nth-requires-clause-within : goal.nth-requires-clause-within
 nth-requires-clause-within c = omega (arith, c.requires.within, ids_count c.self.inside c.self.invariant, ap (λ (p : Proof). length p.met) c.self.view_is)
 
-pub nth-requires-clause-room : goal.nth-requires-clause-room
-nth-requires-clause-room c = rw c.split_at.ensures.back (ids_room c.self.inside c.self.invariant)
+pub nth-requires-clause-space : goal.nth-requires-clause-space
+nth-requires-clause-space c = rw c.split_at.ensures.back (ids_space c.self.inside c.self.invariant)
 
 pub returns-clause-id : goal.returns-clause-id
 returns-clause-id c =
