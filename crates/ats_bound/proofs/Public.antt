@@ -38,6 +38,8 @@ pub use Rattle.ats_bound.proofs.Scores.{held_or_missing}
 pub use Rattle.ats_bound.proofs.Scores.{missing_within}
 -- a settled answer over brackets that contain the scores of the met documents is a top answer
 pub use Rattle.ats_bound.proofs.Ranking.{settled_is_top}
+-- documents outside an answer score at most what no bracket outside it and no threshold exceeds
+pub use Rattle.ats_bound.proofs.Ranking.{answer_is_bounded}
 -- whether the text of a document has the term
 pub use Rattle.ats_bound.proofs.Texts.{has}
 -- a term's list gives a document its posting's impact, or 0 if the document lacks the term

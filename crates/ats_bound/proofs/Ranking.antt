@@ -6,7 +6,7 @@ use Rattle.std.proofs.lemmas.List.{length-map, get_or-map, get_or_default}
 use Rattle.ats_impact.specs.Rank.{times, IsTopBy}
 use Rattle.ats_bound.specs.declared.bracket.Bracket.{Bracket}
 use Rattle.ats_bound.specs.Cut.{IsMet, names, threshold}
-use Rattle.ats_bound.specs.Settled.{ArePicks, IsSettled, bracket_at, last_row}
+use Rattle.ats_bound.specs.Settled.{AreDistinct, ArePicks, IsSettled, IsOutside, bracket_at, last_row}
 use Rattle.ats_bound.specs.Ranked.{CutLane, AreScores, HoldsScore, AreOfMet, answer_of, cut_of, docs_of}
 use Rattle.ats_bound.proofs.Places.{times_same, times_other, stands, position_of, stands_twice}
 use Rattle.ats_bound.proofs.Scores.{unmet_scores, met_below}
@@ -30,9 +30,9 @@ once_of (x ∷ numbers) apart m =
           )
     ]
 
-module _ (n r : ℕ) (score : ℕ → ℕ) (lanes : List CutLane) (brackets : List Bracket) (picks : List ℕ) (are : AreScores n score lanes)
+module _ (n : ℕ) (score : ℕ → ℕ) (lanes : List CutLane) (brackets : List Bracket) (picks : List ℕ) (are : AreScores n score lanes)
     (of_met : AreOfMet lanes brackets) (hold : All (HoldsScore score) brackets) (inside : ArePicks brackets picks)
-    (settled : IsSettled brackets picks (threshold (cut_of lanes)) r) where
+    (once : AreDistinct picks) where
   abbrev answer : List ℕ
   answer = answer_of brackets picks
 
@@ -79,7 +79,7 @@ module _ (n r : ℕ) (score : ℕ → ℕ) (lanes : List CutLane) (brackets : Li
       let before : j < length picks = omega (arith, less, high) in
       let docs : doc_of (get_or picks j 0) ≡ doc_of (get_or picks k 0) = sym (row_is j before) ∙ same ∙ row_is k high in
       let places : get_or picks j 0 ≡ get_or picks k 0 = same_place (get_or picks j 0) (get_or picks k 0) (pick_low j before) (pick_low k high) docs in
-      omega (arith, stands_twice picks j k less high places, settled.once (get_or picks k 0))
+      omega (arith, stands_twice picks j k less high places, once (get_or picks k 0))
 
   -- a bracket's document is met
   is_met : (i : ℕ) → i < length brackets → IsMet (cut_of lanes) (doc_of i)
@@ -114,30 +114,22 @@ module _ (n r : ℕ) (score : ℕ → ℕ) (lanes : List CutLane) (brackets : Li
       let low_doc : doc_of i < n = met_below n score lanes (doc_of i) are (is_met i (pick_low k here)) in
       rw is (low_doc, (holds i (pick_low k here)).scores)
 
-  falling : (k : ℕ) → k + 1 < length answer → score (get_or answer (k + 1) 0) ≤ score (get_or answer k 0)
-  falling k low =
-      let next : k + 1 < length picks = omega (arith, low, size) in
-      let here : k < length picks = omega (arith, next) in
-      rw (row_is (k + 1) next, row_is k here)
-      (omega (
-        arith,
-        (holds (get_or picks (k + 1) 0) (pick_low (k + 1) next)).hi,
-        settled.falling k next,
-        (holds (get_or picks k 0) (pick_low k here)).lo,
-      ))
-
-  whole : (length answer ≡ r) ⊎ ((doc : ℕ) → doc < n → times doc answer ≡ 0 → score doc ≡ 0)
-  whole = elim settled.whole [
-    | inl full ↦ inl (size ∙ full)
-    | inr every ↦ inr (λ doc low out. elim (cases_Bool (list_any (names doc) (cut_of lanes))) [
-      | inl met ↦
-          let found = place_of doc met in
-          absurd (omega (arith, every.0 found.0 found.1, outside doc found.0 out found.2))
-      | inr unseen ↦
-          let unmet : ¬ IsMet (cut_of lanes) doc = λ met. (let clash : true ≡ false = sym met ∙ unseen in cc) in
-          omega (arith, unmet_scores n score lanes doc are low unmet, every.1)
-    ])
+  -- a document outside the answer scores at most what neither a bracket outside it nor the threshold exceeds
+  others : (most : ℕ) → threshold (cut_of lanes) ≤ most → ((i : ℕ) → IsOutside brackets picks i → (bracket_at brackets i).hi ≤ most)
+      → (doc : ℕ) → doc < n → times doc answer ≡ 0 → score doc ≤ most
+  others most unmet_most above doc low out = elim (cases_Bool (list_any (names doc) (cut_of lanes))) [
+    | inl met ↦
+        let found = place_of doc met in
+        let upper : score (doc_of found.0) ≤ (bracket_at brackets found.0).hi = (holds found.0 found.1).hi in
+        omega (arith, rw found.2 at upper, above found.0 (found.1, outside doc found.0 out found.2))
+    | inr unseen ↦
+        let unmet : ¬ IsMet (cut_of lanes) doc = λ met. (let clash : true ≡ false = sym met ∙ unseen in cc) in
+        omega (arith, unmet_scores n score lanes doc are low unmet, unmet_most)
   ]
+
+  pub answer_is_bounded : (most : ℕ) → threshold (cut_of lanes) ≤ most → ((i : ℕ) → IsOutside brackets picks i → (bracket_at brackets i).hi ≤ most)
+      → AreDistinct answer × All (λ doc. (doc < n) × (0 < score doc)) answer × ((doc : ℕ) → doc < n → times doc answer ≡ 0 → score doc ≤ most)
+  answer_is_bounded most unmet_most above = (once_of answer rows_apart, scoring, others most unmet_most above)
 
   last_holds : 0 < length picks → (last_row brackets picks).lo ≤ score (get_or answer (length answer - 1) 0)
   last_holds some =
@@ -145,34 +137,44 @@ module _ (n r : ℕ) (score : ℕ → ℕ) (lanes : List CutLane) (brackets : Li
       let at : get_or answer (length answer - 1) 0 ≡ doc_of (get_or picks (length picks - 1) 0) = ap (λ m. get_or answer (m - 1) 0) size ∙ row_is (length picks - 1) low in
       rw at (holds (get_or picks (length picks - 1) 0) (pick_low (length picks - 1) low)).lo
 
-  rest : (doc : ℕ) → doc < n → times doc answer ≡ 0 → 0 < length answer → score doc ≤ score (get_or answer (length answer - 1) 0)
-  rest doc low out some =
-      let more : 0 < length picks = omega (arith, some, size) in
-      elim (cases_Bool (list_any (names doc) (cut_of lanes))) [
-        | inl met ↦
-            let found = place_of doc met in
-            let upper : score (doc_of found.0) ≤ (bracket_at brackets found.0).hi = (holds found.0 found.1).hi in
-            omega (
-              arith,
-              rw found.2 at upper,
-              settled.rest found.0 (found.1, outside doc found.0 out found.2) more,
-              last_holds more,
-            )
-        | inr unseen ↦
-            let unmet : ¬ IsMet (cut_of lanes) doc = λ met. (let clash : true ≡ false = sym met ∙ unseen in cc) in
-            let bound = unmet_scores n score lanes doc are low unmet in
-            elim (cases_lt 0 (threshold (cut_of lanes))) [
-              | inl high ↦ omega (arith, bound, settled.unmet more high, last_holds more)
-              | inr none ↦ omega (arith, bound, none)
-            ]
-      ]
+  module _ (r : ℕ) (settled : IsSettled brackets picks (threshold (cut_of lanes)) r) where
+    falling : (k : ℕ) → k + 1 < length answer → score (get_or answer (k + 1) 0) ≤ score (get_or answer k 0)
+    falling k low =
+        let next : k + 1 < length picks = omega (arith, low, size) in
+        let here : k < length picks = omega (arith, next) in
+        rw (row_is (k + 1) next, row_is k here)
+        (omega (
+          arith,
+          (holds (get_or picks (k + 1) 0) (pick_low (k + 1) next)).hi,
+          settled.falling k next,
+          (holds (get_or picks k 0) (pick_low k here)).lo,
+        ))
 
-  pub settled_is_top : IsTopBy n score r answer
-  settled_is_top = record {
-    once = once_of answer rows_apart;
-    most = omega (arith, size, settled.most);
-    scoring = scoring;
-    falling = falling;
-    whole = whole;
-    rest = rest;
-  }
+    whole : (length answer ≡ r) ⊎ ((doc : ℕ) → doc < n → times doc answer ≡ 0 → score doc ≡ 0)
+    whole = elim settled.whole [
+      | inl full ↦ inl (size ∙ full)
+      | inr every ↦ inr (λ doc low out.
+          let none : score doc ≤ 0 = others 0 (omega (arith, every.1)) (λ i outside. absurd (omega (arith, every.0 i outside.0, outside.1))) doc low out in
+          omega (arith, none))
+    ]
+
+    unmet_within : 0 < length picks → threshold (cut_of lanes) ≤ (last_row brackets picks).lo
+    unmet_within some = elim (cases_lt 0 (threshold (cut_of lanes))) [
+      | inl high ↦ settled.unmet some high
+      | inr none ↦ omega (arith, none)
+    ]
+
+    rest : (doc : ℕ) → doc < n → times doc answer ≡ 0 → 0 < length answer → score doc ≤ score (get_or answer (length answer - 1) 0)
+    rest doc low out some =
+        let more : 0 < length picks = omega (arith, some, size) in
+        omega (arith, others (last_row brackets picks).lo (unmet_within more) (λ i outside. settled.rest i outside more) doc low out, last_holds more)
+
+    pub settled_is_top : IsTopBy n score r answer
+    settled_is_top = record {
+      once = once_of answer rows_apart;
+      most = omega (arith, size, settled.most);
+      scoring = scoring;
+      falling = falling;
+      whole = whole;
+      rest = rest;
+    }

@@ -1,5 +1,5 @@
 -- A cut of the lists of a query's terms: what is shown of each list, and the bounds of scores that follow.
-use Rattle.std.specs.Prelude.{◌≡◌, ◌+◌, ◌-◌, ◌*◌, ◌≤◌, ◌==◌, ℕ, Bool, true, List, length, map, take, sum_by, slice_index, if◌then◌else◌}
+use Rattle.std.specs.Prelude.{◌≡◌, ◌+◌, ◌-◌, ◌*◌, ◌==◌, ℕ, Bool, true, List, length, map, take, sum_by, slice_index, if◌then◌else◌}
 use Rattle.std.specs.List.{list_any}
 use Rattle.ats_postings.specs.declared.entry.Entry.{Entry}
 use Rattle.ats_bound.specs.declared.bracket.Bracket.{Bracket}

@@ -1,6 +1,7 @@
 //! The marks of a check.
 
-ghost use Rattle.std.specs.Prelude.{◌≡◌, ◌+◌, ◌<◌, ◌≤◌, ◌^◌, length, replicate, take, slice_set, IfOk};
+ghost use Rattle.std.specs.Prelude.{◌≡◌, ◌+◌, ◌<◌, ◌≤◌, ◌^◌, length, replicate, slice_set, IfOk};
+ghost use Rattle.std.specs.Vec.{vec_capacity};
 ghost use Rattle.ats_bound.specs.Work.{zero_mark, begun, mark_at};
 
 use crate::memory::OutOfMemory;
@@ -30,33 +31,35 @@ const ZERO: Mark = Mark {
 
 /// Memory for the marks of a check, allocated once and used for many checks.
 ///
-/// A check allocates nothing: it begins as many marks as it needs, up to the room that there is.
+/// Its room is the capacity of its memory, in marks. So the memory has not grown in a call that leaves the room as it was.
 #[derive(Drop)]
 pub struct Work {
     marks: Vec<Mark>,
-    len: u32,
 }
 
 impl Model for Work {
-    ghost use Rattle.std.specs.Prelude.{◌≤◌, ◌<◌, ◌^◌, length, take};
+    ghost use Rattle.std.specs.Prelude.{◌<◌, ◌^◌};
+    ghost use Rattle.std.specs.Vec.{vec_capacity};
     ghost use Rattle.ats_bound.specs.Work.{Marked};
 
     ghost Value = { Marked };
 
-    ghost view = { λ w. record { marks = take w.len w.marks.items; room = length w.marks.items } };
+    ghost view = { λ w. record { marks = w.marks.items; room = vec_capacity w.marks } };
 
-    ghost invariant = { λ w. (w.len ≤ length w.marks.items) × (length w.marks.items < 2 ^ 32) };
+    ghost invariant = { λ w. vec_capacity w.marks < 2 ^ 32 };
 }
 
-// Sets the first n marks to zero, and ticks for each.
-fn clear(marks: &mut [Mark], n: usize, steps: &mut Steps)
-    requires space { n ≤ length marks.old }
+// Replaces the marks by n zero marks, in the memory that they have, and ticks for each.
+fn zero(marks: &mut Vec<Mark>, n: u32, steps: &mut Steps)
+    requires space { n ≤ vec_capacity marks.old }
     requires count { steps.old + n < 2 ^ 64 }
-    ensures marks { take n marks.new ≡ replicate n zero_mark }
+    ensures marks { marks.new.items ≡ replicate n zero_mark }
+    ensures capacity { vec_capacity marks.new ≡ vec_capacity marks.old }
     ensures steps { steps.new ≡ steps.old + n }
 {
-    for i in 0..n {
-        marks[i] = ZERO;
+    marks.clear();
+    for _i in 0..n {
+        marks.push_reserved(ZERO);
         steps.tick();
     }
 }
@@ -66,26 +69,25 @@ impl Work {
     pub fn with_room(alloc: Global, n: u32) -> Result<Self, OutOfMemory>
         ensures { IfOk result (λ work. work ≡ begun 0 n) }
     {
-        let marks = vec![in alloc; ZERO; n as usize]?;
-        Ok(Work { marks, len: 0 })
+        let marks = Vec::with_capacity(alloc, n as usize)?;
+        Ok(Work { marks })
     }
 
     /// How many marks may be begun.
     pub fn room(&self) -> u32
         ensures { result ≡ self.now.room }
     {
-        self.marks.len() as u32
+        self.marks.capacity() as u32
     }
 
-    /// Begins `n` marks. The earlier marks are lost.
+    /// Begins `n` marks in the memory that there is. The earlier marks are lost.
     pub fn begin(&mut self, n: u32, steps: &mut Steps)
         requires space { n ≤ self.old.room }
         requires count { steps.old ≤ 2 ^ 63 }
         ensures marks { self.new ≡ begun n self.old.room }
         ensures steps { steps.new ≡ steps.old + n }
     {
-        clear(&mut self.marks, n as usize, steps);
-        self.len = n;
+        zero(&mut self.marks, n, steps);
     }
 
     /// The mark at place `i`, counted from 0.

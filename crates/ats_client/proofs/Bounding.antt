@@ -15,8 +15,7 @@ use Rattle.ats_bound.specs.Settled.{AreDistinct, bracket_at, row, last_row}
 use Rattle.ats_bound.proofs.Public.{counted_places, few_places, times_same, times_other}
 use Rattle.ats_client.specs.Inner.Bounds.{upper, AreBelow, row_mark, lower_before, AreFalling, AreOthersWithin}
 use Rattle.ats_client.specs.Groups.{met_at, brackets_of, AreRowsRight, IsAnswerSettled}
-use Rattle.ats_client.specs.Marked.{AreMarks}
-use Rattle.ats_client.specs.Inner.Marked.{AreNoted}
+use Rattle.ats_client.specs.Marked.{AreMarks, AreNoted}
 use Rattle.ats_client.proofs.Named.{any_is_times, any_none}
 
 -- ---- as many distinct numbers below n as there are

@@ -1,4 +1,5 @@
--- The rows of a settled answer are right if the lanes that are shown are cuts of lists that sum to scores.
+-- The rows of an answer are bounded, and right if it is settled, if the lanes that are shown are cuts of lists that sum
+-- to scores.
 use Rattle.std.proofs.Common.{◌≡◌, ◌<◌, ◌≤◌, ◌∙◌, ℕ, suc, true, false, nat_eq, List, [], ◌∷◌, length, get_or, map, refl, sym, ap, ap₂, subst, inl, inr, arith}
 use Rattle.std.specs.List.{All, list_any}
 use Rattle.std.specs.List.Sorted.{IsStrictlyIncreasing}
@@ -15,9 +16,9 @@ use Rattle.ats_postings.specs.declared.entry.Entry.{Entry}
 use Rattle.ats_bound.specs.declared.bracket.Bracket.{Bracket}
 use Rattle.ats_bound.specs.Cut.{ShownLane, IsMet, names, threshold}
 use Rattle.ats_bound.specs.Schedule.{Bounding}
-use Rattle.ats_bound.specs.Settled.{AreDistinct, IsSettled, ArePicks}
+use Rattle.ats_bound.specs.Settled.{AreDistinct, IsSettled, ArePicks, IsOutside, bracket_at}
 use Rattle.ats_bound.specs.Ranked.{CutLane, AreScores, HoldsScore, AreOfMet, answer_of, cut_of, docs_of}
-use Rattle.ats_bound.proofs.Public.{times_same, times_other, stands, position_of, settled_is_top}
+use Rattle.ats_bound.proofs.Public.{times_same, times_other, stands, position_of, settled_is_top, answer_is_bounded}
 use Rattle.ats_proof.proofs.Public.{increasing-tail}
 use Rattle.ats_proof.specs.Runs.{named}
 use Rattle.ats_client.specs.Presented.{Presented, lane_of}
@@ -25,6 +26,7 @@ use Rattle.ats_client.specs.Indexes.{AreNames}
 use Rattle.ats_client.specs.Groups.{indexes_of, met_at, AreAllMet, AreRowsRight, IsAnswerSettled, brackets_of}
 use Rattle.ats_client.specs.Rows.{row_of}
 use Rattle.ats_client.specs.Headline.{HoldsRow, AreRight}
+use Rattle.ats_client.specs.Bounded.{row_documents, AreBounded}
 use Rattle.ats_client.proofs.ListNotes.{names_inside}
 
 -- ---- met ids
@@ -102,7 +104,7 @@ of_met bounds documents met terms own own_doc same rises named_met all =
 
 -- ---- brackets and rows
 
-module _ (n r : ℕ) (score_of : ℕ → ℕ) (bounds : Bounding) (lanes : List ShownLane) (own : List CutLane) (met answer : List ℕ) (same : lanes ≡ cut_of own)
+module _ (n : ℕ) (score_of : ℕ → ℕ) (bounds : Bounding) (lanes : List ShownLane) (own : List CutLane) (met answer : List ℕ) (same : lanes ≡ cut_of own)
     (scores : AreScores n score_of own) (holds : (i : ℕ) → i < length met → HoldsScore score_of (bounds lanes (met_at met i))) (rows : AreRowsRight met answer) where
   -- each bracket holds its score
   all_hold : All (HoldsScore score_of) (brackets_of bounds lanes met)
@@ -128,12 +130,23 @@ module _ (n r : ℕ) (score_of : ℕ → ℕ) (bounds : Bounding) (lanes : List 
   rows_docs = map-map (λ (row : Row). row.doc) (λ index. row_of (bounds lanes (met_at met index))) answer ∙ row_docs answer rows.inside
 
   -- a settled answer is a top answer
-  pub rows_top : AreOfMet own (brackets_of bounds lanes met) → IsAnswerSettled bounds lanes met answer r → IsTopBy n score_of r (map (λ (row : Row). row.doc) rows_made)
-  rows_top of settled =
+  pub rows_top : AreOfMet own (brackets_of bounds lanes met) → (r : ℕ) → IsAnswerSettled bounds lanes met answer r → IsTopBy n score_of r (map (λ (row : Row). row.doc) rows_made)
+  rows_top of r settled =
       let rests : IsSettled (brackets_of bounds lanes met) answer (threshold (cut_of own)) r =
       subst (λ ls. IsSettled (brackets_of bounds lanes met) answer (threshold ls) r) same settled in
       subst (λ ds. IsTopBy n score_of r ds) (sym rows_docs)
-      (settled_is_top n r score_of own (brackets_of bounds lanes met) answer scores of all_hold picks rests)
+      (settled_is_top n score_of own (brackets_of bounds lanes met) answer scores of all_hold picks rows.once r rests)
+
+  -- and any answer is bounded
+  pub rows_bounded : AreOfMet own (brackets_of bounds lanes met) → (most : ℕ) → threshold lanes ≤ most
+      → ((i : ℕ) → IsOutside (brackets_of bounds lanes met) answer i → (bracket_at (brackets_of bounds lanes met) i).hi ≤ most)
+      → AreDistinct (row_documents rows_made) × All (λ doc. (doc < n) × (0 < score_of doc)) (row_documents rows_made)
+      × ((doc : ℕ) → doc < n → times doc (row_documents rows_made) ≡ 0 → score_of doc ≤ most)
+  rows_bounded of most unmet above =
+      subst (λ (ds : List ℕ). AreDistinct ds × All (λ doc. (doc < n) × (0 < score_of doc)) ds
+      × ((doc : ℕ) → doc < n → times doc ds ≡ 0 → score_of doc ≤ most)) (sym rows_docs)
+      (answer_is_bounded n score_of own (brackets_of bounds lanes met) answer scores of all_hold picks rows.once most
+      (subst (λ (ls : List ShownLane). threshold ls ≤ most) same unmet) above)
 
   -- each row holds the score of its document
   pub rows_hold : All (λ (row : Row). (row.lower ≤ score_of row.doc) × (score_of row.doc ≤ row.upper)) rows_made
@@ -142,22 +155,40 @@ module _ (n r : ℕ) (score_of : ℕ → ℕ) (bounds : Bounding) (lanes : List 
       let held : HoldsScore score_of (bounds lanes (met_at met (get_or answer k d))) = holds (get_or answer k d) (rows.inside k d low) in
       (held.lo, held.hi))
 
--- the rows of a settled answer are right for the texts, if each bracket contains its score
-pub settled_rows_right : (texts : List (List ℕ)) (query : List (List ℕ × ℕ)) (r : ℕ) (bounds : Bounding) (documents : ℕ) (met answer : List ℕ) (terms : List Presented) (own : List CutLane)
-    → AreOf bounds (map (lane_of documents met) terms)
-    → ((i : ℕ) → i < length met → HoldsScore (λ doc. score texts query (get_or texts doc [])) (bounds (map (lane_of documents met) terms) (met_at met i)))
-    → map (lane_of documents met) terms ≡ cut_of own → AreScores (length texts) (λ doc. score texts query (get_or texts doc [])) own
-    → IsStrictlyIncreasing met → All (NamesMet met) terms → AreAllMet (map (lane_of documents met) terms) met → AreRowsRight met answer
-    → IsAnswerSettled bounds (map (lane_of documents met) terms) met answer r
-    → AreRight texts query r (map (λ index. row_of (bounds (map (lane_of documents met) terms) (met_at met index))) answer)
-settled_rows_right texts query r bounds documents met answer terms own own_doc holds same scores rises named_met all rows settled =
-    let lanes : List ShownLane = map (lane_of documents met) terms in
-    let score_of : ℕ → ℕ = λ doc. score texts query (get_or texts doc []) in
-    let made : List Row = map (λ index. row_of (bounds lanes (met_at met index))) answer in
-    let of : AreOfMet own (brackets_of bounds lanes met) = of_met bounds documents met terms own own_doc same rises named_met all in
-    record {
-      top = rows_top (length texts) r score_of bounds lanes own met answer same scores holds rows of settled;
-      bounds = All-weaker (λ (row : Row). (row.lower ≤ score_of row.doc) × (score_of row.doc ≤ row.upper)) (HoldsRow texts query)
-          (λ row held. record { least = held.0; most = held.1 }) made
-          (rows_hold (length texts) r score_of bounds lanes own met answer same scores holds rows);
-    }
+-- the same for texts, by what a proof shows of their lists, if each bracket contains its score
+module _ (texts : List (List ℕ)) (query : List (List ℕ × ℕ)) (bounds : Bounding) (documents : ℕ) (met answer : List ℕ) (terms : List Presented) (own : List CutLane)
+    (own_doc : AreOf bounds (map (lane_of documents met) terms))
+    (holds : (i : ℕ) → i < length met → HoldsScore (λ doc. score texts query (get_or texts doc [])) (bounds (map (lane_of documents met) terms) (met_at met i)))
+    (same : map (lane_of documents met) terms ≡ cut_of own) (scores : AreScores (length texts) (λ doc. score texts query (get_or texts doc [])) own)
+    (rises : IsStrictlyIncreasing met) (named_met : All (NamesMet met) terms) (all : AreAllMet (map (lane_of documents met) terms) met)
+    (rows : AreRowsRight met answer) where
+  abbrev shown : List ShownLane
+  shown = map (lane_of documents met) terms
+
+  abbrev scored : ℕ → ℕ
+  scored doc = score texts query (get_or texts doc [])
+
+  abbrev made : List Row
+  made = map (λ index. row_of (bounds shown (met_at met index))) answer
+
+  of : AreOfMet own (brackets_of bounds shown met)
+  of = of_met bounds documents met terms own own_doc same rises named_met all
+
+  bounded : All (HoldsRow texts query) made
+  bounded =
+      All-weaker (λ (row : Row). (row.lower ≤ scored row.doc) × (scored row.doc ≤ row.upper)) (HoldsRow texts query)
+      (λ row held. record { least = held.0; most = held.1 }) made
+      (rows_hold (length texts) scored bounds shown own met answer same scores holds rows)
+
+  pub settled_rows_right : (r : ℕ) → IsAnswerSettled bounds shown met answer r → AreRight texts query r made
+  settled_rows_right r settled = record {
+    top = rows_top (length texts) scored bounds shown own met answer same scores holds rows of r settled;
+    bounds = bounded;
+  }
+
+  pub shown_rows_bounded : (most : ℕ) → threshold shown ≤ most
+      → ((i : ℕ) → IsOutside (brackets_of bounds shown met) answer i → (bracket_at (brackets_of bounds shown met) i).hi ≤ most)
+      → AreBounded texts query made most
+  shown_rows_bounded most unmet above =
+      let found = rows_bounded (length texts) scored bounds shown own met answer same scores holds rows of most unmet above in
+      record { once = found.0; scoring = found.1; bounds = bounded; others = found.2 }

@@ -30,6 +30,7 @@ mod OwnImpacts
 mod OwnSlots
 mod OwnCounts
 mod HeadlineBrackets
+mod Rests
 mod Headline
 mod AnswerRows
 mod VerifiedBytes

@@ -11,8 +11,7 @@ use Rattle.ats_bound.specs.Work.{zero_mark, mark_at}
 use Rattle.ats_bound.specs.Cut.{ShownLane, IsMet}
 use Rattle.ats_bound.specs.Schedule.{Bounding}
 use Rattle.ats_client.specs.Groups.{met_at, IsUnmet}
-use Rattle.ats_client.specs.Marked.{IsMark, AreMarks}
-use Rattle.ats_client.specs.Inner.Marked.{AreNoted}
+use Rattle.ats_client.specs.Marked.{IsMark, AreMarks, AreNoted}
 use Rattle.ats_client.proofs.Marks.{or_none}
 
 -- a mark with a list is that of a document that some entry names

@@ -1,5 +1,5 @@
 -- A proof has at most one first refusal, and none if it is accepted.
-use Rattle.std.proofs.Common.{◌≡◌, ◌∙◌, ℕ, List, true, Result, Ok, Err, refl, sym, ap, inl, inr}
+use Rattle.std.proofs.Common.{◌≡◌, ◌∙◌, ℕ, List, [], ◌∷◌, true, Result, Ok, Err, refl, sym, ap, inl, inr}
 use Rattle.std.specs.Result.{is_ok, IfErr}
 use Rattle.ats_bound.specs.Cut.{ShownLane, IsMet}
 use Rattle.ats_bound.specs.Schedule.{Bounding}
@@ -9,7 +9,7 @@ use Rattle.ats_refusal.specs.declared.proof.Refusal.TheVariants.{OtherRoot, Slot
 use Rattle.ats_client.specs.Bracketing.{bounds_of}
 use Rattle.ats_client.specs.Presented.{lanes_of}
 use Rattle.ats_client.specs.Groups.{IsOpeningFault, dict_digest, IsDictFault, IsSlotsFault, IsSlotRight, IsMetFault, IsRowsFault, IsSettledFault, met_at}
-use Rattle.ats_client.specs.Accepts.{section_rules, row_rules, rules, Accepts, IsFirstRefusal}
+use Rattle.ats_client.specs.Accepts.{section_rules, row_rule, settled_rule, shown_rules, rules, AcceptsShown, IsFirstShownRefusal, Accepts, IsFirstRefusal}
 use Rattle.ats_client.proofs.Exact.{IsDigestFault, digest_exact, not_opened, not_slots, not_met, not_rows, not_settled}
 use Rattle.ats_client.proofs.Least.{one_least}
 use Rattle.ats_client.proofs.OneListFault.{not_lists, one_out, one_again, out_or_again, one_lists}
@@ -81,15 +81,16 @@ exact_sections H root query proof =
       ),
     )
 
-exact_rows : (query : List (List ℕ × ℕ)) (r : ℕ) (proof : Proof) → AreExact (row_rules query r proof)
-exact_rows query r proof =
-    let lanes : List ShownLane = lanes_of query proof in (
-      record { breaks = not_rows proof.met proof.answer; one = one_row proof.met proof.answer },
-      (record { breaks = not_settled (bounds_of proof) lanes proof.met proof.answer r; one = one_settled (bounds_of proof) lanes proof.met proof.answer r }, tt),
-    )
+exact_shown : (H : List ℕ → List ℕ) (root : List ℕ) (query : List (List ℕ × ℕ)) (proof : Proof) → AreExact (shown_rules H root query proof)
+exact_shown H root query proof =
+    exact_both (section_rules H root query proof) (row_rule proof ∷ []) (exact_sections H root query proof)
+    (record { breaks = not_rows proof.met proof.answer; one = one_row proof.met proof.answer }, tt)
 
 exact : (H : List ℕ → List ℕ) (root : List ℕ) (query : List (List ℕ × ℕ)) (r : ℕ) (proof : Proof) → AreExact (rules H root query r proof)
-exact H root query r proof = exact_both (section_rules H root query proof) (row_rules query r proof) (exact_sections H root query proof) (exact_rows query r proof)
+exact H root query r proof =
+    let lanes : List ShownLane = lanes_of query proof in
+    exact_both (shown_rules H root query proof) (settled_rule query r proof ∷ []) (exact_shown H root query proof)
+    (record { breaks = not_settled (bounds_of proof) lanes proof.met proof.answer r; one = one_settled (bounds_of proof) lanes proof.met proof.answer r }, tt)
 
 -- the rules of what a proof shows: one fails first, and then not all hold
 pub one_section : (H : List ℕ → List ℕ) (root : List ℕ) (query : List (List ℕ × ℕ)) (proof : Proof) (a b : Refusal)
@@ -109,7 +110,17 @@ pub not_both : (H : List ℕ → List ℕ) (root : List ℕ) (query : List (List
     → Accepts H root query r proof → IsFirstRefusal H root query r proof refusal → ⊥
 not_both H root query r proof refusal accepts is = not_all_hold (rules H root query r proof) refusal (exact H root query r proof) is.first accepts.holds
 
-pub accepted : (H : List ℕ → List ℕ) (root : List ℕ) (query : List (List ℕ × ℕ)) (r : ℕ) (proof : Proof) (result : Result ℕ Refusal)
-    → IfErr result (λ refusal. IsFirstRefusal H root query r proof refusal) → Accepts H root query r proof → is_ok result ≡ true
-accepted H root query r proof (Ok threshold) refused accepts = refl
-accepted H root query r proof (Err refusal) refused accepts = absurd (not_both H root query r proof refusal accepts refused)
+-- the same before the settling
+pub one_shown_refusal : (H : List ℕ → List ℕ) (root : List ℕ) (query : List (List ℕ × ℕ)) (proof : Proof) (a b : Refusal)
+    → IsFirstShownRefusal H root query proof a → IsFirstShownRefusal H root query proof b → a ≡ b
+one_shown_refusal H root query proof a b is also = one_first (shown_rules H root query proof) a b (exact_shown H root query proof) is.first also.first
+
+pub not_both_shown : (H : List ℕ → List ℕ) (root : List ℕ) (query : List (List ℕ × ℕ)) (proof : Proof) (refusal : Refusal)
+    → AcceptsShown H root query proof → IsFirstShownRefusal H root query proof refusal → ⊥
+not_both_shown H root query proof refusal accepts is = not_all_hold (shown_rules H root query proof) refusal (exact_shown H root query proof) is.first accepts.holds
+
+-- a proof that is accepted has a result that is no refusal
+pub shown_accepted : (H : List ℕ → List ℕ) (root : List ℕ) (query : List (List ℕ × ℕ)) (proof : Proof) (result : Result ℕ Refusal)
+    → IfErr result (λ refusal. IsFirstShownRefusal H root query proof refusal) → AcceptsShown H root query proof → is_ok result ≡ true
+shown_accepted H root query proof (Ok threshold) refused accepts = refl
+shown_accepted H root query proof (Err refusal) refused accepts = absurd (not_both_shown H root query proof refusal accepts refused)

@@ -17,8 +17,7 @@ use Rattle.ats_client.specs.Inner.KeptTerms.{kept_term, kept_terms}
 use Rattle.ats_client.specs.Presented.{Presented, presented, presented_from, lanes_of}
 use Rattle.ats_client.specs.Indexes.{AreNames}
 use Rattle.ats_client.specs.Groups.{IsListRight, indexes_of, met_at}
-use Rattle.ats_client.specs.Marked.{AreMarks}
-use Rattle.ats_client.specs.Inner.Marked.{AreNoted}
+use Rattle.ats_client.specs.Marked.{AreMarks, AreNoted}
 use Rattle.ats_client.specs.Inner.Noting.{Note, AreNotes, IsNoted, index_lane, lane_notes, notes_of}
 use Rattle.ats_client.proofs.Lanes.{gain_all, held_all, has_all, rests_all}
 use Rattle.ats_client.proofs.Marks.{notes_turn}

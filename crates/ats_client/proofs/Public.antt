@@ -12,6 +12,11 @@ pub use Rattle.ats_client.proofs.HeadlineBrackets.{looked_same}
 pub use Rattle.ats_client.proofs.Headline.{top_or_collides}
 -- if the rules of what a proof shows hold, all of it is the archive's own or there is a collision
 pub use Rattle.ats_client.proofs.Headline.{own_or_collides}
+-- a proof in range of which all rules before the settling hold has, for each archive with the root, bounded rows or a
+-- collision
+pub use Rattle.ats_client.proofs.Headline.{bounded_or_collides}
+-- one rule before the settling fails first, and then not all hold
+pub use Rattle.ats_client.proofs.OneRefusal.{one_shown_refusal, not_both_shown}
 -- if a rule of what a proof shows fails first, not all hold
 pub use Rattle.ats_client.proofs.OneRefusal.{section_rules_do_not_hold}
 -- one rule of what a proof shows fails first

@@ -18,8 +18,7 @@ use Rattle.ats_refusal.specs.declared.proof.Refusal.{Refusal}
 use Rattle.ats_client.specs.Bracketing.{impact_shown, bounds_in, bounds_of}
 use Rattle.ats_client.specs.Documents.{MetDocument, documents_from, documents_in, present_numbers, document_rules, IsDocumentRight, AreDocumentsRight, IsDocumentsFault}
 use Rattle.ats_client.specs.Groups.{met_at}
-use Rattle.ats_client.specs.Marked.{IsMark, AreMarks}
-use Rattle.ats_client.specs.Inner.Marked.{AreNoted}
+use Rattle.ats_client.specs.Marked.{IsMark, AreMarks, AreNoted}
 use Rattle.ats_client.specs.Presented.{presented, lanes_of}
 use Rattle.ats_client.specs.Inner.KeptTerms.{kept_terms, bare_lanes}
 use Rattle.ats_base.specs.Rules.{IsFirstFault, IsFirstOf}

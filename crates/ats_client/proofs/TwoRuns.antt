@@ -13,6 +13,17 @@ pub first_hold : {F : Type 0} (a b : List (Group F)) → AllHold (a ++ b) → Al
 first_hold [] b holds = tt
 first_hold (group ∷ a) b holds = (holds.0, first_hold a b holds.1)
 
+-- all groups hold if those of both runs do
+pub both_hold : {F : Type 0} (a b : List (Group F)) → AllHold a → AllHold b → AllHold (a ++ b)
+both_hold [] b first second = second
+both_hold (group ∷ a) b first second = (first.0, both_hold a b first.1 second)
+
+-- the first failure of the first run is that of both
+pub first_in_front : {F : Type 0} (a b : List (Group F)) (fault : F) → IsFirstFault a fault → IsFirstFault (a ++ b) fault
+first_in_front [] b fault is = absurd is
+first_in_front (group ∷ a) b fault (inl here) = inl here
+first_in_front (group ∷ a) b fault (inr later) = inr (later.0, first_in_front a b fault later.1)
+
 -- the first failure is one of the first run, or the first run is holds and it is one of the second
 pub first_or_second : {F : Type 0} (a b : List (Group F)) (fault : F) → IsFirstFault (a ++ b) fault → IsFirstFault a fault ⊎ (AllHold a × IsFirstFault b fault)
 first_or_second [] b fault is = inr (tt, is)

@@ -20,19 +20,32 @@ section_rules H root query proof =
     ∷ record { holds = AreDocumentsRight H query proof; fault = IsDocumentsFault H query proof }
     ∷ []
 
--- the rules of the rows of an answer, in their order
-abbrev pub row_rules : List (List ℕ × ℕ) → ℕ → Proof → List (Group Refusal)
-row_rules query r proof =
-    record { holds = AreRowsRight proof.met proof.answer; fault = IsRowsFault proof.met proof.answer }
-    ∷ record {
-      holds = IsAnswerSettled (bounds_of proof) (lanes_of query proof) proof.met proof.answer r;
-      fault = IsSettledFault (bounds_of proof) (lanes_of query proof) proof.met proof.answer r;
-    }
-    ∷ []
+-- the rule of the rows of an answer
+abbrev pub row_rule : Proof → Group Refusal
+row_rule proof = record { holds = AreRowsRight proof.met proof.answer; fault = IsRowsFault proof.met proof.answer }
+
+-- the rule that what is shown settles the answer
+abbrev pub settled_rule : List (List ℕ × ℕ) → ℕ → Proof → Group Refusal
+settled_rule query r proof = record {
+  holds = IsAnswerSettled (bounds_of proof) (lanes_of query proof) proof.met proof.answer r;
+  fault = IsSettledFault (bounds_of proof) (lanes_of query proof) proof.met proof.answer r;
+}
+
+-- the rules before the settling, in their order: those of what a proof shows, then that of the rows
+abbrev pub shown_rules : (List ℕ → List ℕ) → List ℕ → List (List ℕ × ℕ) → Proof → List (Group Refusal)
+shown_rules H root query proof = section_rules H root query proof ++ row_rule proof ∷ []
 
 -- the rules of a proof, in their order
 abbrev pub rules : (List ℕ → List ℕ) → List ℕ → List (List ℕ × ℕ) → ℕ → Proof → List (Group Refusal)
-rules H root query r proof = section_rules H root query proof ++ row_rules query r proof
+rules H root query r proof = shown_rules H root query proof ++ settled_rule query r proof ∷ []
+
+-- all rules before the settling hold
+pub record AcceptsShown (H : List ℕ → List ℕ) (root : List ℕ) (query : List (List ℕ × ℕ)) (proof : Proof) : Type 0 where
+  pub holds : AllHold (shown_rules H root query proof)
+
+-- the first rule before the settling that the proof breaks
+pub record IsFirstShownRefusal (H : List ℕ → List ℕ) (root : List ℕ) (query : List (List ℕ × ℕ)) (proof : Proof) (refusal : Refusal) : Type 0 where
+  pub first : IsFirstFault (shown_rules H root query proof) refusal
 
 -- all rules hold
 pub record Accepts (H : List ℕ → List ℕ) (root : List ℕ) (query : List (List ℕ × ℕ)) (r : ℕ) (proof : Proof) : Type 0 where

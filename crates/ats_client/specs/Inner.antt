@@ -2,7 +2,6 @@
 
 pub mod Bounds
 pub mod KeptTerms
-pub mod Marked
 pub mod Noting
 pub mod Sections
 pub mod Seen

@@ -11,6 +11,7 @@ pub mod Rows
 pub mod Rooted
 pub mod Strings
 pub mod Headline
+pub mod Bounded
 pub mod Bytes
 pub mod Sections
 pub mod Inner

@@ -1,5 +1,5 @@
 -- What the marks of a check say of the met documents.
-use Rattle.std.specs.Prelude.{◌≡◌, ◌<◌, ◌≤◌, ◌+◌, ◌-◌, ◌^◌, ℕ, List, length, nat_lt}
+use Rattle.std.specs.Prelude.{◌≡◌, ◌<◌, ◌≤◌, ◌+◌, ◌-◌, ◌^◌, ◌==◌, ℕ, List, length, nat_lt}
 use Rattle.std.specs.List.{list_any}
 use Rattle.ats_bound.specs.declared.work.Mark.{Mark}
 use Rattle.ats_bound.specs.Work.{mark_at}
@@ -20,3 +20,7 @@ pub record IsMark (bounds : Bounding) (lanes : List ShownLane) (doc : ℕ) (mark
 pub record AreMarks (bounds : Bounding) (lanes : List ShownLane) (met : List ℕ) (marks : List Mark) : Type 0 where
   pub size : length marks ≡ length met
   pub each : (i : ℕ) → i < length met → IsMark bounds lanes (met_at met i) (mark_at marks i)
+
+-- each mark notes whether one of these rows names its document
+abbrev pub AreNoted : List ℕ → List Mark → Type 0
+AreNoted rows marks = (i : ℕ) → i < length marks → (mark_at marks i).row ≡ list_any (λ index. index == i) rows

@@ -6,8 +6,7 @@ ghost use Rattle.ats_proof.specs.Value.{items_of_prefix};
 ghost use Rattle.ats_client.specs.Presented.{lanes_of};
 ghost use Rattle.ats_client.specs.Inner.KeptTerms.{kept_terms};
 ghost use Rattle.ats_client.specs.Groups.{AreSlotsRight, AreListsRight, IsListsFault};
-ghost use Rattle.ats_client.specs.Marked.{AreMarks};
-ghost use Rattle.ats_client.specs.Inner.Marked.{AreNoted};
+ghost use Rattle.ats_client.specs.Marked.{AreMarks, AreNoted};
 
 use crate::kept_terms::PresentTerms;
 use crate::next_term::present;

@@ -6,8 +6,7 @@ ghost use Rattle.ats_bound.specs.Work.{mark_at};
 ghost use Rattle.ats_proof.specs.Value.{items_of_documents};
 ghost use Rattle.ats_client.specs.Bracketing.{bounds_of};
 ghost use Rattle.ats_client.specs.Documents.{IsDocsTree, IsDocsFault, AreDocumentsRight, IsDocumentsFault};
-ghost use Rattle.ats_client.specs.Marked.{AreMarks};
-ghost use Rattle.ats_client.specs.Inner.Marked.{AreNoted};
+ghost use Rattle.ats_client.specs.Marked.{AreMarks, AreNoted};
 ghost use Rattle.ats_client.specs.Presented.{lanes_of};
 ghost use Rattle.ats_client.specs.Inner.KeptTerms.{kept_terms};
 

@@ -5,8 +5,7 @@ ghost use Rattle.ats_bound.specs.Cut.{ShownLane};
 ghost use Rattle.ats_bound.specs.Schedule.{Bounding};
 ghost use Rattle.ats_client.specs.Indexes.{AreNames};
 ghost use Rattle.ats_client.specs.Groups.{AreRowsRight, IsRowsFault};
-ghost use Rattle.ats_client.specs.Marked.{AreMarks};
-ghost use Rattle.ats_client.specs.Inner.Marked.{AreNoted};
+ghost use Rattle.ats_client.specs.Marked.{AreMarks, AreNoted};
 
 use ats_bound::{Mark, Work};
 use ats_hash::Steps;

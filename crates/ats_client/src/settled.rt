@@ -6,8 +6,7 @@ ghost use Rattle.ats_bound.specs.Cut.{ShownLane, threshold as threshold_of};
 ghost use Rattle.ats_bound.specs.Schedule.{Bounding};
 ghost use Rattle.ats_client.specs.Inner.Bounds.{upper, AreBelow, lower_before, AreFalling, AreOthersWithin};
 ghost use Rattle.ats_client.specs.Groups.{AreRowsRight, IsAnswerSettled};
-ghost use Rattle.ats_client.specs.Marked.{AreMarks};
-ghost use Rattle.ats_client.specs.Inner.Marked.{AreNoted};
+ghost use Rattle.ats_client.specs.Marked.{AreMarks, AreNoted};
 
 use ats_bound::{Mark, Work};
 use ats_hash::Steps;

@@ -1,7 +1,6 @@
 -- Beside specs/Stand: what only the functions of this room promise one another.
 use Rattle.std.specs.Prelude.{◌<◌, ℕ, List}
 use Rattle.ats_bound.specs.declared.walk.Walk.{Walk}
-use Rattle.ats_bound.specs.Cut.{threshold}
 use Rattle.ats_bound.specs.Settled.{IsSettled}
 use Rattle.ats_bound.specs.Schedule.{WholeLane, Bounding, CanSettleBy, IsFirstSettledBy, IsScheduled}
 use Rattle.ats_bound.specs.Stand.{IsStand}

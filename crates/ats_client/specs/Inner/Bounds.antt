@@ -1,5 +1,6 @@
 -- The bounds that marks give: for the rows of an answer, and for the documents outside it.
-use Rattle.std.specs.Prelude.{◌≡◌, ◌+◌, ◌-◌, ◌<◌, ◌≤◌, ◌^◌, ℕ, zero, suc, List, length, slice_index, false}
+use Rattle.std.specs.Prelude.{◌≡◌, ◌+◌, ◌-◌, ◌<◌, ◌≤◌, ◌^◌, ℕ, zero, suc, List, length, max, slice_index, false, if◌then◌else◌}
+use Rattle.std.specs.List.{fold}
 use Rattle.ats_bound.specs.declared.work.Mark.{Mark}
 use Rattle.ats_bound.specs.Work.{mark_at}
 
@@ -29,3 +30,11 @@ AreFalling threshold marks answer n = (k : ℕ) → k < n → upper threshold (r
 -- no document that no row names can score more than `score`
 abbrev pub AreOthersWithin : ℕ → List Mark → ℕ → Type 0
 AreOthersWithin threshold marks score = (i : ℕ) → i < length marks → (mark_at marks i).row ≡ false → upper threshold (mark_at marks i) ≤ score
+
+-- the most that a document scores that no row names, or 0 if a row names it
+abbrev pub outside : ℕ → Mark → ℕ
+outside threshold mark = if mark.row then 0 else upper threshold mark
+
+-- the greatest of these and of the threshold
+abbrev pub most_outside : ℕ → List Mark → ℕ
+most_outside threshold marks = fold (λ most mark. max most (outside threshold mark)) threshold marks

@@ -4,7 +4,6 @@ use Rattle.ats_tree.specs.Differences.{Difference}
 use Rattle.ats_tree.specs.declared.hashed.Place.{Place}
 use Rattle.ats_tree.specs.declared.clashing.Clash as found
 use Rattle.ats_tree.specs.declared.hashed.Tree.{Tree}
-use Rattle.ats_client.specs.declared.clashing.Clash.{Clash}
 
 -- the two strings of a clash that was found in a tree or in a list
 abbrev pub difference_in : Tree → found.Clash (List ℕ) → Difference Place

@@ -1,22 +1,30 @@
-use Rattle.std.proofs.Common.{ℕ, Result, Ok, Err}
-use Rattle.std.specs.Result.{OnOk}
-use Rattle.ats_proof.specs.Value.{IsProof, Proof}
-use Rattle.ats_refusal.specs.declared.proof.Refusal.{Refusal}
-use Rattle.ats_client.proofs.OneRefusal.{accepted}
+use Rattle.std.proofs.Common.{◌≤◌, ◌^◌, arith}
+use Rattle.ats_proof.specs.Value.{IsProof, Proof, items_of}
+use Rattle.ats_client.specs.Accepts.{IsFirstRefusal}
+use Rattle.ats_client.proofs.Faults.{passed_on}
+use Rattle.ats_client.proofs.FewItems.{few_items}
 use Rattle.ats_client.proofs.Headline.{top_or_collides}
+use Rattle.ats_client.proofs.Sectioned.{refused_shown, settled_accepts}
 use Rattle.ats_client.proofs.checking.check.Goals as goal
 
-pub returns-clause-exact : goal.returns-clause-exact
-returns-clause-exact g c = accepted g.H.HashKind.hash c.args.root.now c.args.query.now c.args.top c.args.proof.now c.checked.result c.checked.ensures.refused
+pub returns-in_err-threshold-clause-refused : goal.returns-in_err-threshold-clause-refused
+returns-in_err-threshold-clause-refused g c =
+    passed_on (IsFirstRefusal g.H.HashKind.hash c.args.root.now c.args.query.now c.args.top c.args.proof.now) c.from_residual.result c.in_err-threshold.field-0.0
+    c.from_residual.ensures.1 (refused_shown g.H.HashKind.hash c.args.root.now c.args.query.now c.args.proof.now c.args.top c.in_err-threshold.field-0.0 c.in_err-threshold.ensures.refused)
 
-on_both : (P Q R : Type 0) (result : Result ℕ Refusal) → (P → Q → R) → OnOk result P → OnOk result Q → OnOk result R
-on_both P Q R (Ok threshold) made p q = made p q
-on_both P Q R (Err refusal) made p q = p
+pub settled-requires-clause-count : goal.settled-requires-clause-count
+settled-requires-clause-count g c =
+    let few : items_of c.args.proof.now ≤ 2 ^ 26 = few_items c.is_spelled.ensures.spelled.0 c.args.proof.now c.is_spelled.ensures.spelled.1 in
+    omega (arith, few, c.check_shown.ensures.steps, c.requires.count)
+
+pub returns-clause-accepts : goal.returns-clause-accepts
+returns-clause-accepts g c =
+    let settled = c.settled.ensures.settled _ _ c.in_ok-threshold.ensures.marks c.in_ok-threshold.ensures.threshold in
+    settled_accepts g.H.HashKind.hash c.args.root.now c.args.query.now c.args.proof.now c.args.top c.in_ok-threshold.ensures.holds (settled.0 c.if-not-settled.false)
 
 pub returns-clause-headline : goal.returns-clause-headline
 returns-clause-headline g c =
     let proof : Proof = c.args.proof.now in
     let is : IsProof c.is_spelled.ensures.spelled.0 proof = c.is_spelled.ensures.spelled.1 in
-    on_both _ _ _ c.checked.result
-    (λ accepts asked. top_or_collides g.H.HashKind.hash g.H.HashKind.sized c.args.root.now c.args.query.now c.args.top proof asked c.is_spelled.ensures.range is.prefix_each is.documents accepts)
-    c.checked.ensures.accepts c.checked.ensures.asked
+    top_or_collides g.H.HashKind.hash g.H.HashKind.sized c.args.root.now c.args.query.now c.args.top proof c.in_ok-threshold.ensures.asked c.is_spelled.ensures.range
+    is.prefix_each is.documents (returns-clause-accepts g c)

@@ -3,8 +3,7 @@ use Rattle.std.specs.List.{list_any}
 use Rattle.ats_bound.specs.declared.work.Mark.{Mark}
 use Rattle.ats_bound.specs.Work.{Marked, mark_at}
 use Rattle.ats_proof.specs.Value.{Proof}
-use Rattle.ats_client.specs.Marked.{AreMarks}
-use Rattle.ats_client.specs.Inner.Marked.{AreNoted}
+use Rattle.ats_client.specs.Marked.{AreMarks, AreNoted}
 use Rattle.ats_client.proofs.Named.{any_none, any_some, out_at, again_at, names_more}
 use Rattle.ats_client.proofs.Noting.{noted_more, marks_kept}
 use Rattle.ats_client.proofs.rows.read_row.Goals as goal

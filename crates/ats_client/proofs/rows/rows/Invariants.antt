@@ -2,8 +2,7 @@ use Rattle.std.proofs.Common.{◌≡◌, ◌+◌, ◌*◌, ◌≤◌, List, leng
 use Rattle.ats_bound.specs.Cut.{ShownLane}
 use Rattle.ats_bound.specs.Schedule.{Bounding}
 use Rattle.ats_client.specs.Indexes.{AreNames}
-use Rattle.ats_client.specs.Marked.{AreMarks}
-use Rattle.ats_client.specs.Inner.Marked.{AreNoted}
+use Rattle.ats_client.specs.Marked.{AreMarks, AreNoted}
 use Rattle.ats_client.proofs.rows.rows.Given as goal
 
 abbrev pub invariant-loop-row : goal.invariant-loop-row
