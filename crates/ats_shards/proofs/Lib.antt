@@ -1,0 +1,5 @@
+pub mod Public
+mod Joined
+mod Passing
+mod Fields
+mod Roots

@@ -1,0 +1,7 @@
+pub mod Catalog
+pub mod Grammar
+pub mod Value
+pub mod Bytes
+pub mod Seen
+pub mod Strings
+pub mod Growth
