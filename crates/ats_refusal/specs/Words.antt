@@ -6,6 +6,8 @@ use Rattle.ats_refusal.specs.declared.proof.Refusal.{Refusal}
 use Rattle.ats_refusal.specs.declared.proof.Refusal.TheVariants.{OtherRoot, SlotCount, DictMisfit, DictRoot, SlotWrong, IndexOut, Repeated, ListMisfit, ListRoot, Unmet, DocsMisfit, DocsRoot, TermsMisfit, TermsRoot, TermSlot, AnswerOut, AnswerRepeated, NotSettled}
 use Rattle.ats_refusal.specs.declared.proof.Rejection.{Rejection}
 use Rattle.ats_refusal.specs.declared.proof.Rejection.TheVariants.{Shape, Check}
+use Rattle.ats_refusal.specs.declared.catalog.CatalogRefusal.{CatalogRefusal}
+use Rattle.ats_refusal.specs.declared.catalog.CatalogRefusal.TheVariants as catalog
 use Rattle.ats_refusal.specs.declared.text.TextRefusal.{TextRefusal}
 use Rattle.ats_refusal.specs.declared.text.TextRefusal.TheVariants as text
 use Rattle.ats_refusal.specs.declared.documents.BothRefusal.{BothRefusal}
@@ -49,6 +51,13 @@ refusal_words NotSettled = codes "not-settled"
 abbrev pub rejection_words : Rejection → List ℕ
 rejection_words (Shape fault) = shape_words fault.kind ++ decimal fault.at
 rejection_words (Check refusal) = refusal_words refusal
+
+-- of the proof of a catalog's answer
+abbrev pub catalog_refusal_words : CatalogRefusal → List ℕ
+catalog_refusal_words catalog.OtherRoot = codes "other-root"
+catalog_refusal_words (catalog.Shard shard rejection) =
+    codes "shard " ++ (decimal shard ++ (codes " " ++ rejection_words rejection))
+catalog_refusal_words catalog.NotSettled = codes "not-settled"
 
 -- of the text of a document
 abbrev pub text_refusal_words : TextRefusal → List ℕ

@@ -1,11 +1,13 @@
 //! The words of refusals, as they are printed after the first word of a line.
 
 ghost use Rattle.std.specs.Prelude.{◌≡◌};
-ghost use Rattle.ats_refusal.specs.Words.{shape_words, refusal_words, rejection_words, text_refusal_words, both_refusal_words, growth_refusal_words};
+ghost use Rattle.ats_refusal.specs.Inner.Phrase.{text_of_form};
+ghost use Rattle.ats_refusal.specs.Words.{shape_words, refusal_words, rejection_words, catalog_refusal_words, text_refusal_words, both_refusal_words, growth_refusal_words};
 
+use crate::catalog::CatalogRefusal;
 use crate::documents::BothRefusal;
 use crate::growth::GrowthRefusal;
-use crate::phrases::Phrase;
+use crate::phrases::{Form, Phrase};
 use crate::proof::{Refusal, Rejection};
 use crate::text::TextRefusal;
 use ats_grammar::{ShapeFault, ShapeKind};
@@ -25,54 +27,82 @@ fn shape_words(kind: ShapeKind) -> &'static str
     }
 }
 
-/// The words of a refusal of the proof of an answer.
-pub fn refusal_words(refusal: Refusal) -> Phrase
-    ensures { result ≡ refusal_words refusal }
+fn refusal_form(refusal: Refusal) -> Form
+    ensures { text_of_form result ≡ refusal_words refusal }
 {
     match refusal {
-        Refusal::OtherRoot => Phrase::plain("other-root"),
-        Refusal::SlotCount { shown } => Phrase::number("slot-count ", shown as u64),
-        Refusal::DictMisfit => Phrase::plain("dict-misfit"),
-        Refusal::DictRoot => Phrase::plain("dict-root"),
-        Refusal::SlotWrong { term } => Phrase::number("slot-wrong ", term as u64),
-        Refusal::IndexOut { term, entry } => Phrase::numbers(
+        Refusal::OtherRoot => Form::Plain("other-root"),
+        Refusal::SlotCount { shown } => Form::Number("slot-count ", shown as u64),
+        Refusal::DictMisfit => Form::Plain("dict-misfit"),
+        Refusal::DictRoot => Form::Plain("dict-root"),
+        Refusal::SlotWrong { term } => Form::Number("slot-wrong ", term as u64),
+        Refusal::IndexOut { term, entry } => Form::Numbers(
             "index-out ",
             term as u64,
             " ",
             entry as u64,
         ),
-        Refusal::Repeated { term, entry } => Phrase::numbers(
+        Refusal::Repeated { term, entry } => Form::Numbers(
             "repeated ",
             term as u64,
             " ",
             entry as u64,
         ),
-        Refusal::ListMisfit { term } => Phrase::number("list-misfit ", term as u64),
-        Refusal::ListRoot { term } => Phrase::number("list-root ", term as u64),
-        Refusal::Unmet { index } => Phrase::number("unmet ", index as u64),
-        Refusal::DocsMisfit => Phrase::plain("docs-misfit"),
-        Refusal::DocsRoot => Phrase::plain("docs-root"),
-        Refusal::TermsMisfit { doc } => Phrase::number("terms-misfit ", doc as u64),
-        Refusal::TermsRoot { doc } => Phrase::number("terms-root ", doc as u64),
-        Refusal::TermSlot { doc, term } => Phrase::numbers(
+        Refusal::ListMisfit { term } => Form::Number("list-misfit ", term as u64),
+        Refusal::ListRoot { term } => Form::Number("list-root ", term as u64),
+        Refusal::Unmet { index } => Form::Number("unmet ", index as u64),
+        Refusal::DocsMisfit => Form::Plain("docs-misfit"),
+        Refusal::DocsRoot => Form::Plain("docs-root"),
+        Refusal::TermsMisfit { doc } => Form::Number("terms-misfit ", doc as u64),
+        Refusal::TermsRoot { doc } => Form::Number("terms-root ", doc as u64),
+        Refusal::TermSlot { doc, term } => Form::Numbers(
             "term-slot ",
             doc as u64,
             " ",
             term as u64,
         ),
-        Refusal::AnswerOut { row } => Phrase::number("answer-out ", row as u64),
-        Refusal::AnswerRepeated { row } => Phrase::number("answer-repeated ", row as u64),
-        Refusal::NotSettled => Phrase::plain("not-settled"),
+        Refusal::AnswerOut { row } => Form::Number("answer-out ", row as u64),
+        Refusal::AnswerRepeated { row } => Form::Number("answer-repeated ", row as u64),
+        Refusal::NotSettled => Form::Plain("not-settled"),
     }
+}
+
+fn rejection_form(rejection: Rejection) -> Form
+    ensures { text_of_form result ≡ rejection_words rejection }
+{
+    match rejection {
+        Rejection::Shape(ShapeFault { at, kind }) => Form::Number(shape_words(kind), at),
+        Rejection::Check(refusal) => refusal_form(refusal),
+    }
+}
+
+/// The words of a refusal of the proof of an answer.
+pub fn refusal_words(refusal: Refusal) -> Phrase
+    ensures { result ≡ refusal_words refusal }
+{
+    Phrase::of(refusal_form(refusal))
 }
 
 /// The words of a rejection of bytes as a proof, or as another file if it is that of a shape.
 pub fn rejection_words(rejection: Rejection) -> Phrase
     ensures { result ≡ rejection_words rejection }
 {
-    match rejection {
-        Rejection::Shape(ShapeFault { at, kind }) => Phrase::number(shape_words(kind), at),
-        Rejection::Check(refusal) => refusal_words(refusal),
+    Phrase::of(rejection_form(rejection))
+}
+
+/// The words of a refusal of the proof of a catalog's answer.
+pub fn catalog_refusal_words(refusal: CatalogRefusal) -> Phrase
+    ensures { result ≡ catalog_refusal_words refusal }
+{
+    match refusal {
+        CatalogRefusal::OtherRoot => Phrase::plain("other-root"),
+        CatalogRefusal::Shard { shard, rejection } => Phrase::led(
+            "shard ",
+            shard as u64,
+            " ",
+            rejection_form(rejection),
+        ),
+        CatalogRefusal::NotSettled => Phrase::plain("not-settled"),
     }
 }
 
