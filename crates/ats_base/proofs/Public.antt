@@ -12,6 +12,8 @@ pub use Rattle.ats_base.proofs.Exchanges.{exchanged_none}
 pub use Rattle.ats_base.proofs.Exchanges.{exchanged_then}
 -- what a group of rules must satisfy for there to be one first failure, and that each of some groups does
 pub use Rattle.ats_base.proofs.Rules.{IsExact, AreExact}
+-- the group of one rule is such a group
+pub use Rattle.ats_base.proofs.Rules.{one_way}
 -- a group of rules that fails in one way only is such a group
 pub use Rattle.ats_base.proofs.Rules.{fails_by}
 -- if a group fails first, not all hold

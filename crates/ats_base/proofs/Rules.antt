@@ -1,11 +1,15 @@
 -- Laws of groups of rules that are checked one after another.
 use Rattle.std.proofs.Common.{◌≡◌, ◌∙◌, ◌⊎◌, List, [], ◌∷◌, inl, inr, sym}
-use Rattle.ats_base.specs.Rules.{Group, AllHold, IsFirstFault}
+use Rattle.ats_base.specs.Rules.{Group, rule, AllHold, IsFirstFault}
 
 -- a group that fails does not hold, and fails in one way
 pub record IsExact {F : Type 0} (group : Group F) : Type 0 where
   pub breaks : (fault : F) → group.fault fault → group.holds → ⊥
   pub one : (a b : F) → group.fault a → group.fault b → a ≡ b
+
+-- a rule is exact
+pub one_way : {F : Type 0} (holds : Type 0) (fault : F) → IsExact (rule holds fault)
+one_way holds fault = record { breaks = λ told is. is.1; one = λ a b is also. is.0 ∙ sym also.0 }
 
 -- a group that fails only by x is exact
 pub fails_by : {F : Type 0} (x : F) (group : Group F) → ((a : F) → group.fault a → (a ≡ x) × (group.holds → ⊥)) → IsExact group

@@ -7,6 +7,10 @@ pub record Group (F : Type 0) : Type 1 where
   pub holds : Type 0
   pub fault : F → Type 0
 
+-- the group of one rule, which fails only by this, exactly if it does not hold
+abbrev pub rule : {F : Type 0} → Type 0 → F → Group F
+rule holds fault = record { holds = holds; fault = λ told. (told ≡ fault) × (holds → ⊥) }
+
 abbrev pub AllHold : {F : Type 0} → List (Group F) → Type 0
 AllHold [] = Unit {0}
 AllHold (group ∷ groups) = group.holds × AllHold groups

@@ -1,37 +1,18 @@
 -- A proof is refused by one rule, and not if it is accepted.
-use Rattle.std.proofs.Common.{◌≡◌, ◌∙◌, ℕ, List, length, true, Result, Ok, Err, refl, sym, ap, subst, inl, inr}
+use Rattle.std.proofs.Common.{◌≡◌, ℕ, List, true, Result, Ok, Err, refl, ap, subst}
 use Rattle.std.specs.Result.{is_ok, IfErr}
 use Rattle.ats_base.specs.Rules.{AllHold}
-use Rattle.ats_base.proofs.Public.{AreExact, not_all_hold, one_first}
-use Rattle.ats_proof.specs.Value.{Proof, algorithm_of}
-use Rattle.ats_proof.specs.declared.record.Algorithm.TheVariants.{Tra}
+use Rattle.ats_base.proofs.Public.{AreExact, one_way, not_all_hold, one_first}
+use Rattle.ats_proof.specs.Value.{Proof}
 use Rattle.ats_client.specs.Accepts.{section_rules}
 use Rattle.ats_proof.proofs.Public.{one_value}
 use Rattle.ats_client.proofs.Public.{section_rules_do_not_hold, one_section}
-use Rattle.ats_conjunction.specs.Rules.{rules, AcceptsBoth, IsFirstBothRefusal, IsOtherAlgorithm, HasRows, IsSectionFault, IsWhole, IsPart}
+use Rattle.ats_conjunction.specs.Rules.{rules, AcceptsBoth, IsFirstBothRefusal, IsSectionFault}
 use Rattle.ats_conjunction.specs.Bytes.{AreAcceptedBytes, AreRefusedBytes}
 use Rattle.ats_refusal.specs.declared.documents.BothRefusal.{BothRefusal}
-use Rattle.ats_refusal.specs.declared.documents.BothRefusal.TheVariants.{NotTra, AnswerShown, Section, NoWholeList}
+use Rattle.ats_refusal.specs.declared.documents.BothRefusal.TheVariants.{Section}
 
 module _ (H : List ℕ → List ℕ) (root : List ℕ) (query : List (List ℕ × ℕ)) (proof : Proof) where
-  one_algorithm : (a b : BothRefusal) → IsOtherAlgorithm proof a → IsOtherAlgorithm proof b → a ≡ b
-  one_algorithm NotTra NotTra is also = refl
-  one_algorithm NotTra _ is also = absurd also
-  one_algorithm _ b is also = absurd is
-
-  breaks_algorithm : (a : BothRefusal) → IsOtherAlgorithm proof a → algorithm_of proof ≡ Tra → ⊥
-  breaks_algorithm NotTra is holds = is holds
-  breaks_algorithm _ is holds = is
-
-  one_rows : (a b : BothRefusal) → HasRows proof a → HasRows proof b → a ≡ b
-  one_rows (AnswerShown rows) (AnswerShown others) is also = ap AnswerShown (is.0 ∙ sym also.0)
-  one_rows (AnswerShown rows) _ is also = absurd also
-  one_rows _ b is also = absurd is
-
-  breaks_rows : (a : BothRefusal) → HasRows proof a → length proof.answer ≡ 0 → ⊥
-  breaks_rows (AnswerShown rows) is holds = is.1 holds
-  breaks_rows _ is holds = is
-
   one_in_sections : (a b : BothRefusal) → IsSectionFault H root query proof a → IsSectionFault H root query proof b → a ≡ b
   one_in_sections (Section a) (Section b) is also = ap Section (one_section H root query proof a b is also)
   one_in_sections (Section a) _ is also = absurd also
@@ -41,28 +22,8 @@ module _ (H : List ℕ → List ℕ) (root : List ℕ) (query : List (List ℕ �
   breaks_sections (Section a) is holds = section_rules_do_not_hold H root query proof a is holds
   breaks_sections _ is holds = is
 
-  one_part : (a b : BothRefusal) → IsPart query proof a → IsPart query proof b → a ≡ b
-  one_part NoWholeList NoWholeList is also = refl
-  one_part NoWholeList _ is also = absurd also
-  one_part _ b is also = absurd is
-
-  breaks_part : (a : BothRefusal) → IsPart query proof a → IsWhole query proof → ⊥
-  breaks_part NoWholeList is (inl not) = let present = is.0 in absurd (cc)
-  breaks_part NoWholeList is (inr whole) = let part = is.1 in absurd (cc)
-  breaks_part _ is holds = is
-
-  -- each rule fails in one way, and is then not holds
   exact : AreExact (rules H root query proof)
-  exact = (
-    record { breaks = breaks_algorithm; one = one_algorithm },
-    (
-      record { breaks = breaks_rows; one = one_rows },
-      (
-        record { breaks = breaks_sections; one = one_in_sections },
-        (record { breaks = breaks_part; one = one_part }, tt),
-      ),
-    ),
-  )
+  exact = (one_way _ _, (one_way _ _, (record { breaks = breaks_sections; one = one_in_sections }, (one_way _ _, tt))))
 
   pub one_refusal : (a b : BothRefusal) → IsFirstBothRefusal H root query proof a → IsFirstBothRefusal H root query proof b → a ≡ b
   one_refusal a b is also = one_first (rules H root query proof) a b exact is.first also.first

@@ -1,6 +1,6 @@
 -- When a growth is accepted under two roots, and by which rule it is refused otherwise.
-use Rattle.std.specs.Prelude.{◌≡◌, ◌≢◌, ◌≤◌, ◌<◌, ℕ, List, [], ◌∷◌, length, reverse, true}
-use Rattle.ats_base.specs.Rules.{Group, AllHold, IsFirstFault}
+use Rattle.std.specs.Prelude.{◌≡◌, ◌≤◌, ℕ, List, [], ◌∷◌, length, reverse, true}
+use Rattle.ats_base.specs.Rules.{Group, rule, AllHold, IsFirstFault}
 use Rattle.ats_commit.specs.Root.{header_root}
 use Rattle.ats_consistency.specs.Pair.{Roots, roots}
 use Rattle.ats_consistency.specs.Shape.{turns, need}
@@ -16,41 +16,17 @@ digests_needed m n = need (turns m n) true
 abbrev pub texts_roots : (List ℕ → List ℕ) → Growth → Roots
 texts_roots H g = roots H g.old.texts_root (turns g.old.documents g.new.documents) true (reverse g.digests)
 
-abbrev pub IsOtherOld : (List ℕ → List ℕ) → List ℕ → Growth → GrowthRefusal → Type 0
-IsOtherOld H root g OtherOld = header_root H g.old_format g.old ≢ root
-IsOtherOld H root g _ = ⊥
-
-abbrev pub IsOtherNew : (List ℕ → List ℕ) → List ℕ → Growth → GrowthRefusal → Type 0
-IsOtherNew H root g OtherNew = header_root H g.new_format g.new ≢ root
-IsOtherNew H root g _ = ⊥
-
--- there are fewer documents than before
-abbrev pub IsShrunk : Growth → GrowthRefusal → Type 0
-IsShrunk g (Shrunk old new) = (old ≡ g.old.documents) × (new ≡ g.new.documents) × (g.new.documents < g.old.documents)
-IsShrunk g _ = ⊥
-
-abbrev pub IsMisfit : Growth → GrowthRefusal → Type 0
-IsMisfit g (GrowthMisfit digests) =
-    (digests ≡ length g.digests) × (length g.digests ≢ digests_needed g.old.documents g.new.documents)
-IsMisfit g _ = ⊥
-
-abbrev pub IsOldTexts : (List ℕ → List ℕ) → Growth → GrowthRefusal → Type 0
-IsOldTexts H g OldTexts = (texts_roots H g).old ≢ g.old.texts_root
-IsOldTexts H g _ = ⊥
-
-abbrev pub IsNewTexts : (List ℕ → List ℕ) → Growth → GrowthRefusal → Type 0
-IsNewTexts H g NewTexts = (texts_roots H g).new ≢ g.new.texts_root
-IsNewTexts H g _ = ⊥
-
--- the rules of a growth, in their order
+-- The rules of a growth in their order, each with its fault: the two headers have these roots, under the tags of their
+-- formats; there are no fewer documents than before; there are as many digests as the growth needs; they give the roots of
+-- the old texts and of the new ones that the headers have.
 abbrev pub rules : (List ℕ → List ℕ) → List ℕ → List ℕ → Growth → List (Group GrowthRefusal)
 rules H old new g =
-    record { holds = header_root H g.old_format g.old ≡ old; fault = IsOtherOld H old g }
-    ∷ record { holds = header_root H g.new_format g.new ≡ new; fault = IsOtherNew H new g }
-    ∷ record { holds = g.old.documents ≤ g.new.documents; fault = IsShrunk g }
-    ∷ record { holds = length g.digests ≡ digests_needed g.old.documents g.new.documents; fault = IsMisfit g }
-    ∷ record { holds = (texts_roots H g).old ≡ g.old.texts_root; fault = IsOldTexts H g }
-    ∷ record { holds = (texts_roots H g).new ≡ g.new.texts_root; fault = IsNewTexts H g }
+    rule (header_root H g.old_format g.old ≡ old) OtherOld
+    ∷ rule (header_root H g.new_format g.new ≡ new) OtherNew
+    ∷ rule (g.old.documents ≤ g.new.documents) (Shrunk g.old.documents g.new.documents)
+    ∷ rule (length g.digests ≡ digests_needed g.old.documents g.new.documents) (GrowthMisfit (length g.digests))
+    ∷ rule ((texts_roots H g).old ≡ g.old.texts_root) OldTexts
+    ∷ rule ((texts_roots H g).new ≡ g.new.texts_root) NewTexts
     ∷ []
 
 -- all rules hold

@@ -1,36 +1,13 @@
 -- A text has at most one first refusal, and none if it is accepted.
-use Rattle.std.proofs.Common.{◌≡◌, ◌∙◌, ℕ, List, length, true, Result, Ok, Err, refl, ap, arith}
+use Rattle.std.proofs.Common.{◌≡◌, ℕ, List, true, Result, Ok, Err, refl}
 use Rattle.std.specs.Result.{is_ok, IfErr}
-use Rattle.ats_base.proofs.Public.{AreExact, fails_by, not_all_hold, one_first}
-use Rattle.ats_inclusion.specs.Accepts.{IsRooted, IsRootFault, IsInside, IsDocFault, IsFit, IsMisfit, IsTextRooted, IsTextRootFault, text_rules, AcceptsText, IsFirstTextRefusal}
+use Rattle.ats_base.proofs.Public.{AreExact, one_way, not_all_hold, one_first}
+use Rattle.ats_inclusion.specs.Accepts.{text_rules, AcceptsText, IsFirstTextRefusal}
 use Rattle.ats_inclusion.specs.Value.{TextProof}
 use Rattle.ats_refusal.specs.declared.text.TextRefusal.{TextRefusal}
-use Rattle.ats_refusal.specs.declared.text.TextRefusal.TheVariants.{OtherRoot, DocOut, TextMisfit, TextRoot}
-
-root-is : (H : List ℕ → List ℕ) (root : List ℕ) (proof : TextProof) (a : TextRefusal) → IsRootFault H root proof a → (a ≡ OtherRoot) × (IsRooted H root proof → ⊥)
-root-is H root proof OtherRoot is = (refl, is)
-root-is H root proof _ is = absurd is
-
-doc-is : (doc : ℕ) (proof : TextProof) (a : TextRefusal) → IsDocFault doc proof a → (a ≡ DocOut proof.header.documents) × (IsInside doc proof → ⊥)
-doc-is doc proof (DocOut documents) is = (ap DocOut is.0, λ holds. omega (arith, is.0, is.1, holds))
-doc-is doc proof _ is = absurd is
-
-misfit-is : (doc : ℕ) (proof : TextProof) (a : TextRefusal) → IsMisfit doc proof a → (a ≡ TextMisfit (length proof.digests)) × (IsFit doc proof → ⊥)
-misfit-is doc proof (TextMisfit digests) is = (ap TextMisfit is.0, λ holds. is.1 (is.0 ∙ holds))
-misfit-is doc proof _ is = absurd is
-
-text-is : (H : List ℕ → List ℕ) (doc : ℕ) (proof : TextProof) (a : TextRefusal) → IsTextRootFault H doc proof a → (a ≡ TextRoot) × (IsTextRooted H doc proof → ⊥)
-text-is H doc proof TextRoot is = (refl, λ holds. let rebuilt = is.rebuilt in is.differs (cc))
-text-is H doc proof _ is = absurd is
 
 exact : (H : List ℕ → List ℕ) (root : List ℕ) (doc : ℕ) (proof : TextProof) → AreExact (text_rules H root doc proof)
-exact H root doc proof = (
-  fails_by OtherRoot _ (root-is H root proof),
-  (
-    fails_by (DocOut proof.header.documents) _ (doc-is doc proof),
-    (fails_by (TextMisfit (length proof.digests)) _ (misfit-is doc proof), (fails_by TextRoot _ (text-is H doc proof), tt)),
-  ),
-)
+exact H root doc proof = (one_way _ _, (one_way _ _, (one_way _ _, (one_way _ _, tt))))
 
 pub one_refusal : (H : List ℕ → List ℕ) (root : List ℕ) (doc : ℕ) (proof : TextProof) (a b : TextRefusal)
     → IsFirstTextRefusal H root doc proof a → IsFirstTextRefusal H root doc proof b → a ≡ b
