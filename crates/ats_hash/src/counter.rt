@@ -5,7 +5,8 @@ ghost use Rattle.std.specs.Prelude.{◌≡◌, ℕ, ◌+◌, ◌^◌, ◌<◌};
 use std::alloc::Global;
 use std::marker::Model;
 
-/// The number of steps taken. It is neither `Clone` nor `Default`, so no step can be counted elsewhere.
+/// The number of steps taken. It is neither `Clone` nor `Default`, so no step can be counted elsewhere. What one step costs
+/// is not stated: a digest is one step however often its bytes are hashed, and a read without a tick may be repeated.
 #[derive(Drop)]
 pub struct Steps {
     taken: u64,

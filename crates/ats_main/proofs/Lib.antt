@@ -1,1 +1,1 @@
-mod OfRun
+mod Ended

@@ -1,28 +1,25 @@
-//! The status that the program ends with: that of a run of the top call.
+//! The status that the program ends with: that of a run of the top call, of the program's words.
 
-ghost use Rattle.std.specs.Prelude.{◌≡◌, ◌≢◌, [], map, string_bytes, IfOk, IfErr};
+ghost use Rattle.std.specs.Prelude.{◌≡◌, Ok, Err, [], map, string_bytes, MatchResult};
 ghost use Rattle.std.specs.IoError.{error_kind};
 ghost use Rattle.std.specs.Process.{exit_status};
-ghost use Rattle.std.specs.declared.io.ErrorKind.TheVariants.{OutOfMemory};
-ghost use Rattle.sha2.specs.Sha256.{sha256};
 ghost use Rattle.ats_console.specs.Stops.{text_of_stop};
 ghost use Rattle.ats_console.specs.declared.stops.Stop.TheVariants.{Memory};
-ghost use Rattle.ats_top.specs.Run.{Prints, Ran};
-ghost use Rattle.ats_main.specs.Ending.{EndsRun, IsOfRun};
+ghost use Rattle.ats_top.specs.Outside.{Outside};
+ghost use Rattle.ats_top.specs.Run.{Prints};
+ghost use Rattle.ats_main.specs.Ending.{EndsFor, EndsAs, begun};
 
 use ats_base::{Caller, Door, Shelf, Sink, write_all};
+use ats_outside::{FileShelf, Files, Net, Print, StdSink, TcpCaller, TcpDoor, Words};
 use std::alloc::Global;
-use std::env::{self, Env};
 use std::io;
 use std::process::{ExitCode, Termination};
 use std::thread::Threads;
 
-/// How the program ends: with the status of a run of the top call under SHA-256, or with that of out of memory before there
-/// were words to pass to it. Only [`end`] makes one.
+/// How the program ends. Only [`end`] makes one.
 #[derive(Drop)]
 pub struct Ending {
     code: ExitCode,
-    ghost of_run: { ∥ IsOfRun (exit_status code) ∥₁ },
 }
 
 impl Termination for Ending {
@@ -33,10 +30,22 @@ impl Termination for Ending {
     }
 }
 
-// The words after the program's name.
-fn words<R: Env + AllocGlobal>(rt: &R) -> io::Result<Vec<String>> {
-    let words = env::args(rt)?.skip(1).collect(rt.alloc())?;
-    Ok(words)
+/// The calls of std over which the objects of a run are made. The caller and the door have a network each.
+#[derive(Drop)]
+pub struct Calls<F, P, N, M> {
+    pub files: F,
+    pub print: P,
+    pub calling: N,
+    pub opening: M,
+}
+
+/// The objects of a run.
+#[derive(Drop)]
+pub struct Objects<S, K, C, D> {
+    pub shelf: S,
+    pub out: K,
+    pub caller: C,
+    pub door: D,
 }
 
 // What the top call does if memory runs out.
@@ -60,20 +69,11 @@ fn status_of<R: Threads + Sync, S: Shelf, K: Sink, C: Caller, D: Door>(
     caller: &mut C,
     door: &mut D,
 ) -> u8
-    ensures read { IfOk words (λ said. Ran sha256 (map string_bytes said.items)
-        (record { shelf = S.told shelf.old; sink = K.told out.old; caller = C.told caller.old; door = D.told door.old })
-        (record { shelf = S.told shelf.new; sink = K.told out.new; caller = C.told caller.new; door = D.told door.new })
-        result) }
-    ensures unread { IfErr words (λ fault. error_kind fault ≢ OutOfMemory → Ran sha256 []
-        (record { shelf = S.told shelf.old; sink = K.told out.old; caller = C.told caller.old; door = D.told door.old })
-        (record { shelf = S.told shelf.new; sink = K.told out.new; caller = C.told caller.new; door = D.told door.new })
-        result) }
-    ensures memory { IfErr words (λ fault. error_kind fault ≡ OutOfMemory
-        → Prints (K.told out.old) (K.told out.new) 6 [] (text_of_stop Memory) result) }
-    ensures ends { EndsRun
-        (record { shelf = S.told shelf.old; sink = K.told out.old; caller = C.told caller.old; door = D.told door.old })
-        (record { shelf = S.told shelf.new; sink = K.told out.new; caller = C.told caller.new; door = D.told door.new })
-        result }
+    ensures { let before : Outside = record { shelf = S.told shelf.old; sink = K.told out.old; caller = C.told caller.old; door = D.told door.old } in
+        let now : Outside = record { shelf = S.told shelf.new; sink = K.told out.new; caller = C.told caller.new; door = D.told door.new } in
+        MatchResult words
+        (λ said. EndsFor (Ok (map string_bytes said.items)) before now result)
+        (λ fault. EndsFor (Err (error_kind fault)) before now result) }
 {
     match words {
         Ok(words) => ats_top::run(rt, alloc, &words, shelf, out, caller, door),
@@ -82,21 +82,53 @@ fn status_of<R: Threads + Sync, S: Shelf, K: Sink, C: Caller, D: Door>(
     }
 }
 
-/// Does what the program's words say over these objects, and ends with the status of this run.
-pub fn end<R: Env + AllocGlobal + Threads + Sync, S: Shelf, K: Sink, C: Caller, D: Door>(
+/// Does what the words say, over objects that it makes over these calls, and ends with the status of this run. The objects
+/// come back as the run left them.
+pub fn end<R: AllocGlobal + Threads + Sync, W: Words, F: Files, P: Print, N: Net, M: Net>(
     rt: &R,
-    shelf: &mut S,
-    out: &mut K,
-    caller: &mut C,
-    door: &mut D,
-) -> Ending
-    ensures { EndsRun
-        (record { shelf = S.told shelf.old; sink = K.told out.old; caller = C.told caller.old; door = D.told door.old })
-        (record { shelf = S.told shelf.new; sink = K.told out.new; caller = C.told caller.new; door = D.told door.new })
-        (exit_status result.code) }
+    words: W,
+    calls: Calls<F, P, N, M>,
+) -> (
+    Ending,
+    Objects<FileShelf<F>, StdSink<P>, TcpCaller<N>, TcpDoor<M>>,
+)
+    ensures { EndsAs (W.returned words)
+        (begun (record {
+          files = F.content calls.files;
+          asked = F.asked calls.files;
+          printed = P.printed calls.print;
+          calling = N.told calls.calling;
+          opening = M.told calls.opening;
+        }))
+        (record {
+          shelf = ⟦<FileShelf<F> as Shelf>⟧.told result.1.shelf;
+          sink = ⟦<StdSink<P> as Sink>⟧.told result.1.out;
+          caller = ⟦<TcpCaller<N> as Caller>⟧.told result.1.caller;
+          door = ⟦<TcpDoor<M> as Door>⟧.told result.1.door;
+        })
+        (exit_status result.0.code) }
 {
-    let status = status_of(rt, rt.alloc(), words(rt), shelf, out, caller, door);
-    Ending {
+    let mut shelf = FileShelf::new(calls.files);
+    let mut out = StdSink::new(calls.print);
+    let mut caller = TcpCaller::new(calls.calling);
+    let mut door = TcpDoor::new(calls.opening);
+    let status = status_of(
+        rt,
+        rt.alloc(),
+        words.words(),
+        &mut shelf,
+        &mut out,
+        &mut caller,
+        &mut door,
+    );
+    let ending = Ending {
         code: ExitCode::from(status),
-    }
+    };
+    let objects = Objects {
+        shelf,
+        out,
+        caller,
+        door,
+    };
+    (ending, objects)
 }

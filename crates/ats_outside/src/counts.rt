@@ -7,7 +7,7 @@ use ats_base::Failed;
 
 /// How often an object failed, and whether its last call did.
 #[derive(Drop)]
-pub(crate) struct Faults {
+pub struct Faults {
     count: u64,
     last_failed: bool,
 }
@@ -54,7 +54,7 @@ impl Faults {
 
 /// How often an object was called, how often it failed, and whether its last call did.
 #[derive(Drop)]
-pub(crate) struct Counts {
+pub struct Counts {
     calls: u64,
     faults: Faults,
 }

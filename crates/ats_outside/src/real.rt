@@ -2,7 +2,9 @@
 
 ghost use Rattle.std.specs.Prelude.{None};
 
-use crate::calls::{Files, Net, Print, Stream};
+use crate::calls::{Files, Net, Print, Stream, Words};
+use crate::counts::Counts;
+use std::env::{self, Env};
 use std::fs::{File, OpenOptions};
 use std::io::{self, Read, Seek, SeekFrom, Write};
 use std::net::{self, OpenListener, OpenStream, Shutdown, SocketAddr, TcpListener, TcpStream};
@@ -13,10 +15,21 @@ use std::time::Duration;
 #[derive(Drop)]
 pub struct RealStream<S>(S);
 
+impl<R: Env + AllocGlobal> Words for &R {
+    ghost returned = { λ _. None };
+
+    fn words(self) -> io::Result<Vec<String>> {
+        let words = env::args(self)?.skip(1).collect(self.alloc())?;
+        Ok(words)
+    }
+}
+
 impl<R: rt::Files + AllocGlobal> Files for &R {
     type File = R::File;
 
     ghost content = { λ _. None };
+
+    ghost asked = { λ _. None };
 
     ghost told = { λ _. None };
 
@@ -31,8 +44,10 @@ impl<R: rt::Files + AllocGlobal> Files for &R {
             .write(bytes)
     }
 
-    fn open(&mut self, name: &str) -> io::Result<R::File> {
-        File::open(*self, name)
+    fn open(&mut self, name: &str, place: u64) -> io::Result<R::File> {
+        let mut file = File::open(*self, name)?;
+        file.seek(SeekFrom::Start(place))?;
+        Ok(file)
     }
 
     fn seek(&mut self, file: &mut R::File, place: u64) -> io::Result<()> {
@@ -81,26 +96,50 @@ impl<'a, R: net::Net> net::Net for Patient<'a, R> {
     }
 }
 
+// A stream that waits so long in each call, and sends each piece at once.
+fn prepared<S: OpenStream + Drop>(stream: S, limit: Duration) -> io::Result<RealStream<S>> {
+    stream.set_read_timeout(Some(limit))?;
+    stream.set_write_timeout(Some(limit))?;
+    stream.set_nodelay(true)?;
+    Ok(RealStream(stream))
+}
+
 impl<R: net::Net> Net for &R {
     type Stream = RealStream<R::Stream>;
 
     type Listener = R::Listener;
 
+    ghost told = { λ _. None };
+
     fn connect(&mut self, address: &str, limit: Duration) -> io::Result<RealStream<R::Stream>> {
-        TcpStream::connect(&Patient { net: *self, limit }, address).map(RealStream)
+        prepared(
+            TcpStream::connect(&Patient { net: *self, limit }, address)?,
+            limit,
+        )
     }
 
     fn listen(&mut self, address: &str) -> io::Result<R::Listener> {
         TcpListener::bind(*self, address)
     }
 
-    fn accept(&mut self, listener: &R::Listener) -> io::Result<RealStream<R::Stream>> {
-        listener.accept().map(|(stream, _)| RealStream(stream))
+    fn accept(
+        &mut self,
+        listener: &R::Listener,
+        limit: Duration,
+    ) -> io::Result<RealStream<R::Stream>> {
+        let (stream, _) = listener.accept()?;
+        prepared(stream, limit)
+    }
+
+    fn close(&mut self, stream: RealStream<R::Stream>, _: Counts) {
+        drop(stream)
     }
 }
 
 impl<S: Read + Write + OpenStream + Drop> Stream for RealStream<S> {
     ghost traffic = { λ _. None };
+
+    ghost patience = { λ _. None };
 
     fn read(&mut self, buf: &mut [u8]) -> io::Result<usize> {
         self.0.read(buf)
@@ -114,15 +153,11 @@ impl<S: Read + Write + OpenStream + Drop> Stream for RealStream<S> {
         self.0.shutdown(Shutdown::Write)
     }
 
-    fn set_read_limit(&self, limit: Duration) -> io::Result<()> {
+    fn set_read_limit(&mut self, limit: Duration) -> io::Result<()> {
         self.0.set_read_timeout(Some(limit))
     }
 
-    fn set_write_limit(&self, limit: Duration) -> io::Result<()> {
-        self.0.set_write_timeout(Some(limit))
-    }
-
-    fn send_at_once(&self) -> io::Result<()> {
-        self.0.set_nodelay(true)
+    fn skip(&mut self, buf: &mut [u8]) -> io::Result<usize> {
+        self.0.read(buf)
     }
 }

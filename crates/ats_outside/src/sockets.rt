@@ -1,8 +1,10 @@
 //! Links, a caller and a door over the calls of std, for TCP. No call of theirs loops.
 
-ghost use Rattle.std.specs.Prelude.{◌≡◌, true, false, None, is_some, IfOk};
-ghost use Rattle.ats_base.specs.Links.{IsCalledAt};
-ghost use Rattle.ats_outside.specs.Calls.{IsUnused};
+ghost use Rattle.std.specs.Prelude.{◌≡◌, true, false, None, is_some, option_map, IfOk, OnOk, OnErr};
+ghost use Rattle.std.proofs.Props.{props};
+ghost use Rattle.ats_base.specs.Links.{accepting_out, counting_accept};
+ghost use Rattle.ats_outside.specs.Calls.{IsUnused, WaitsAtMost, longest_wait};
+ghost use Rattle.ats_outside.specs.Begun.{told_caller, told_door};
 
 use crate::calls::{Net, Stream};
 use crate::counts::{Counts, Faults};
@@ -21,34 +23,34 @@ const UNREAD: usize = 1 << 16;
 
 /// One end of a conversation. Dropping it ends the conversation.
 #[derive(Drop)]
-pub struct TcpLink<S> {
+pub struct TcpLink<S: Stream> {
     stream: S,
     counts: Counts,
+    ghost patient: { WaitsAtMost longest_wait (S.patience stream) } by { Prim.hlevel props },
 }
 
 impl<S: Stream> TcpLink<S> {
-    // A short reply is one packet, and must not wait for another one.
-    fn new(stream: S) -> io::Result<Self>
-        ensures calm { IfOk result (λ link. link.counts.faults.count ≡ 0) }
-        ensures fine { IfOk result (λ link. link.counts.faults.last_failed ≡ false) }
-        ensures same { IfOk result (λ link. link.stream ≡ stream) }
+    fn new(stream: S) -> Self
+        requires { WaitsAtMost longest_wait (S.patience stream) }
+        ensures calm { result.counts.faults.count ≡ 0 }
+        ensures fine { result.counts.faults.last_failed ≡ false }
+        ensures same { result.stream ≡ stream }
     {
-        let patience = Duration::from_secs(PATIENCE);
-        stream.set_read_limit(patience)?;
-        stream.set_write_limit(patience)?;
-        stream.send_at_once()?;
-        Ok(TcpLink {
+        TcpLink {
             stream,
             counts: Counts::new(),
-        })
+        }
     }
 
     // Lets what was written arrive: if input is unread when a socket is closed, the system resets the connection, and
     // drops what it has not yet delivered.
-    fn part(&mut self) -> io::Result<usize> {
+    fn part(&mut self) -> io::Result<usize>
+        ensures traffic { S.traffic self.new.stream ≡ S.traffic self.old.stream }
+        ensures counts { self.new.counts ≡ self.old.counts }
+    {
         self.stream.end_output()?;
         self.stream.set_read_limit(Duration::from_secs(PARTING))?;
-        self.stream.read(&mut [0u8; UNREAD])
+        self.stream.skip(&mut [0u8; UNREAD])
     }
 }
 
@@ -78,7 +80,8 @@ impl<S: Stream> Link for TcpLink<S> {
     }
 }
 
-/// Connects to addresses, which are an IP address or a host's name, a colon and a port.
+/// Connects to addresses, which are an IP address or a host's name, a colon and a port. A link that is given back takes up
+/// to 65,536 bytes that nobody read, which it does not report.
 #[derive(Drop)]
 pub struct TcpCaller<N> {
     net: N,
@@ -88,39 +91,26 @@ pub struct TcpCaller<N> {
 impl<N: Net> TcpCaller<N> {
     /// A caller that has not failed, over the real runtime (`&rt`) or another network.
     pub fn new(net: N) -> Self
-        ensures { result.faults.count ≡ 0 }
+        ensures faults { result.faults.count ≡ 0 }
+        ensures last { result.faults.last_failed ≡ false }
+        ensures net { result.net ≡ net }
     {
         TcpCaller {
             net,
             faults: Faults::new(),
         }
     }
-
-    fn reach(&mut self, address: &str) -> io::Result<TcpLink<N::Stream>>
-        ensures calm { IfOk result (λ link. link.counts.faults.count ≡ 0) }
-        ensures fine { IfOk result (λ link. link.counts.faults.last_failed ≡ false) }
-        ensures new { IfOk result (λ link. IsUnused (N.Stream.traffic link.stream)) }
-        ensures address { IfOk result (λ link. IsCalledAt address.now (N.Stream.traffic link.stream)) }
-        ensures faults { self.new.faults ≡ self.old.faults }
-    {
-        let stream = self.net.connect(address, Duration::from_secs(PATIENCE))?;
-        TcpLink::new(stream)
-    }
 }
 
 impl<N: Net> Caller for TcpCaller<N> {
     type Link = TcpLink<N::Stream>;
 
-    ghost told = { λ c. record {
-      content = None;
-      faults = c.faults.count;
-      last_failed = c.faults.last_failed;
-    } };
+    ghost told = { λ c. told_caller (N.told c.net) c.faults.count c.faults.last_failed };
 
     fn call(&mut self, address: &str) -> Result<TcpLink<N::Stream>, Failed> {
         self.faults.begin();
-        match self.reach(address) {
-            Ok(link) => Ok(link),
+        match self.net.connect(address, Duration::from_secs(PATIENCE)) {
+            Ok(stream) => Ok(TcpLink::new(stream)),
             Err(_) => Err(self.faults.fail()),
         }
     }
@@ -130,10 +120,12 @@ impl<N: Net> Caller for TcpCaller<N> {
             self.faults.count_broken();
         }
         let _ = link.part();
+        self.net.close(link.stream, link.counts);
     }
 }
 
-/// Listens at one address, of the form that a caller takes, and accepts those that connect there.
+/// Listens at one address, of the form that a caller takes, and accepts those that connect there. A link that is given
+/// back ends as that of a caller.
 #[derive(Drop)]
 pub struct TcpDoor<N: Net> {
     net: N,
@@ -145,8 +137,11 @@ pub struct TcpDoor<N: Net> {
 impl<N: Net> TcpDoor<N> {
     /// A door that is not open and has not failed, over the real runtime (`&rt`) or another network.
     pub fn new(net: N) -> Self
+        ensures closed { is_some result.listener ≡ false }
         ensures faults { result.faults.count ≡ 0 }
+        ensures last { result.faults.last_failed ≡ false }
         ensures broken { result.broken.count ≡ 0 }
+        ensures net { result.net ≡ net }
     {
         TcpDoor {
             net,
@@ -156,11 +151,12 @@ impl<N: Net> TcpDoor<N> {
         }
     }
 
-    fn admit(&mut self) -> io::Result<TcpLink<N::Stream>>
+    fn admit(&mut self) -> io::Result<N::Stream>
         requires { is_some self.old.listener ≡ true }
-        ensures calm { IfOk result (λ link. link.counts.faults.count ≡ 0) }
-        ensures fine { IfOk result (λ link. link.counts.faults.last_failed ≡ false) }
-        ensures new { IfOk result (λ link. IsUnused (N.Stream.traffic link.stream)) }
+        ensures ok { OnOk result (N.told self.new.net ≡ option_map accepting_out (N.told self.old.net)) }
+        ensures err { OnErr result (N.told self.new.net ≡ option_map counting_accept (N.told self.old.net)) }
+        ensures new { IfOk result (λ stream. IsUnused (is_some (N.told self.old.net)) (N.Stream.traffic stream)) }
+        ensures patient { IfOk result (λ stream. WaitsAtMost longest_wait (N.Stream.patience stream)) }
         ensures stays { is_some self.new.listener ≡ true }
         ensures faults { self.new.faults ≡ self.old.faults }
         ensures broken { self.new.broken ≡ self.old.broken }
@@ -168,21 +164,15 @@ impl<N: Net> TcpDoor<N> {
         let Some(listener) = &self.listener else {
             unreachable!();
         };
-        let stream = self.net.accept(listener)?;
-        TcpLink::new(stream)
+        self.net.accept(listener, Duration::from_secs(PATIENCE))
     }
 }
 
 impl<N: Net> Door for TcpDoor<N> {
     type Link = TcpLink<N::Stream>;
 
-    ghost told = { λ d. record {
-      content = None;
-      is_open = is_some d.listener;
-      faults = d.faults.count;
-      broken = d.broken.count;
-      last_failed = d.faults.last_failed;
-    } };
+    ghost told = { λ d. told_door (N.told d.net) (is_some d.listener)
+        d.faults.count d.broken.count d.faults.last_failed };
 
     fn listen(&mut self, address: &str) -> Result<(), Failed> {
         self.faults.begin();
@@ -198,7 +188,7 @@ impl<N: Net> Door for TcpDoor<N> {
     fn accept(&mut self) -> Result<TcpLink<N::Stream>, Failed> {
         self.faults.begin();
         match self.admit() {
-            Ok(link) => Ok(link),
+            Ok(stream) => Ok(TcpLink::new(stream)),
             Err(_) => Err(self.faults.fail()),
         }
     }
@@ -208,5 +198,6 @@ impl<N: Net> Door for TcpDoor<N> {
             self.broken.count_broken();
         }
         let _ = link.part();
+        self.net.close(link.stream, link.counts);
     }
 }

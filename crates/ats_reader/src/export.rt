@@ -159,7 +159,7 @@ pub extern "C" fn ats_query(
 }
 
 /// Writes the line of a verdict, without a line feed, and returns 0. `size` is then how many bytes it has. Returns 2
-/// if there is too little room for them, with `size` all the same, and 6 if memory ran out.
+/// if there is too little room for them, with `size` all the same, and 6 if memory ran out, which it may for any room.
 #[unsafe(no_mangle)]
 pub extern "C" fn ats_line(
     alloc: Global,

@@ -1,12 +1,16 @@
 //! Calls that stand for those of std, over the objects in memory. They report what they did. One of them can be made to
 //! fail, and those that write can be made to write nothing.
 
-ghost use Rattle.std.specs.Prelude.{Some};
+ghost use Rattle.std.specs.Prelude.{Some, Ok, Err, map, option_map, string_bytes};
+ghost use Rattle.std.specs.Duration.{as_nanos};
+ghost use Rattle.std.specs.declared.io.ErrorKind.TheVariants.{OutOfMemory};
 ghost use Rattle.ats_base.specs.Memory.{told_files};
 ghost use Rattle.ats_base.specs.MemoryLinks.{told_link};
+ghost use Rattle.ats_tests_outside.specs.Inner.StandIns.{told_asks};
 
+use crate::reports::{Asks, Deed, Opened};
 use ats_base::{Bytes, Caller, Link, MemCaller, MemLink, MemShelf, MemSink, Shelf, Sink};
-use ats_outside::{Files, Net, Print, Stream};
+use ats_outside::{Counts, Files, Net, Print, Stream, Words};
 use std::alloc::Global;
 use std::cell::{Cell, RefCell};
 use std::io;
@@ -93,15 +97,41 @@ fn fault() -> io::Error {
     io::Error::from(io::ErrorKind::WouldBlock)
 }
 
+/// Words that are held in memory.
+#[derive(Drop)]
+pub struct SomeWords(pub Vec<String>);
+
+impl Words for SomeWords {
+    ghost returned = { λ w. Some (Ok (map string_bytes w.0.items)) };
+
+    fn words(self) -> io::Result<Vec<String>> {
+        Ok(self.0)
+    }
+}
+
+/// Words for which there is no memory.
+#[derive(Drop)]
+pub struct NoWords;
+
+impl Words for NoWords {
+    ghost returned = { λ _. Some (Err OutOfMemory) };
+
+    fn words(self) -> io::Result<Vec<String>> {
+        Err(io::Error::from(io::ErrorKind::OutOfMemory))
+    }
+}
+
 #[derive(Drop)]
 pub struct SomeFiles<'a> {
     pub shelf: MemShelf,
+    pub asks: Asks,
     pub alloc: Global,
     pub script: &'a Script,
 }
 
 #[derive(Drop)]
 pub struct OpenFile {
+    name: Bytes,
     bytes: Bytes,
     place: u64,
 }
@@ -111,9 +141,12 @@ impl Files for SomeFiles<'_> {
 
     ghost content = { λ f. Some (told_files f.shelf.files) };
 
-    ghost told = { λ f. Some (record { bytes = f.bytes; place = f.place }) };
+    ghost asked = { λ f. told_asks f.asks };
+
+    ghost told = { λ f. Some (record { name = f.name; bytes = f.bytes; place = f.place }) };
 
     fn create(&mut self, name: &str) -> io::Result<()> {
+        self.asks.note(name.as_bytes(), Deed::Start);
         self.script.call("create")?;
         match self.shelf.start(name) {
             Ok(()) => Ok(()),
@@ -122,6 +155,7 @@ impl Files for SomeFiles<'_> {
     }
 
     fn append(&mut self, name: &str, bytes: &[u8]) -> io::Result<usize> {
+        self.asks.note(name.as_bytes(), Deed::Append);
         if self.script.fails("append") {
             return Err(fault());
         }
@@ -137,7 +171,8 @@ impl Files for SomeFiles<'_> {
         }
     }
 
-    fn open(&mut self, name: &str) -> io::Result<OpenFile> {
+    fn open(&mut self, name: &str, place: u64) -> io::Result<OpenFile> {
+        self.asks.note(name.as_bytes(), Deed::Read { from: place });
         self.script.call("open")?;
         let Some(bytes) = self.shelf.bytes_of(name) else {
             return Err(fault());
@@ -145,10 +180,15 @@ impl Files for SomeFiles<'_> {
         let Ok(bytes) = Bytes::of(self.alloc, bytes) else {
             return Err(fault());
         };
-        Ok(OpenFile { bytes, place: 0 })
+        let Ok(name) = Bytes::of(self.alloc, name.as_bytes()) else {
+            return Err(fault());
+        };
+        Ok(OpenFile { name, bytes, place })
     }
 
     fn seek(&mut self, file: &mut OpenFile, place: u64) -> io::Result<()> {
+        self.asks
+            .note(file.name.as_slice(), Deed::Read { from: place });
         self.script.call("seek")?;
         file.place = place;
         Ok(())
@@ -197,6 +237,7 @@ impl Print for SomePrint<'_> {
 #[derive(Drop)]
 pub struct SomeNet<'a> {
     pub caller: MemCaller,
+    pub opened: Opened,
     pub alloc: Global,
     pub script: &'a Script,
 }
@@ -206,38 +247,55 @@ impl<'a> Net for SomeNet<'a> {
 
     type Listener = ();
 
+    ghost told = { λ n. Some n.opened };
+
     fn connect(&mut self, address: &str, limit: Duration) -> io::Result<SomeStream<'a>> {
         self.script.limited(limit, "connect")?;
-        match self.caller.call(address) {
-            Ok(link) => Ok(SomeStream {
-                link,
-                script: self.script,
-            }),
-            Err(_) => Err(fault()),
-        }
-    }
-
-    fn listen(&mut self, _: &str) -> io::Result<()> {
-        self.script.call("listen")
-    }
-
-    fn accept(&mut self, _: &()) -> io::Result<SomeStream<'a>> {
-        self.script.call("accept")?;
+        self.opened.note(address)?;
+        let Ok(link) = self.caller.call(address) else {
+            return Err(fault());
+        };
+        self.opened.hand_out()?;
         Ok(SomeStream {
-            link: MemLink::new(self.alloc, Bytes::new(self.alloc)),
+            link,
+            patience: Some(limit),
             script: self.script,
         })
+    }
+
+    fn listen(&mut self, address: &str) -> io::Result<()> {
+        self.script.call("listen")?;
+        self.opened.note(address)
+    }
+
+    fn accept(&mut self, _: &(), limit: Duration) -> io::Result<SomeStream<'a>> {
+        self.opened.count_accept();
+        self.script.limited(limit, "accept")?;
+        self.opened.hand_out()?;
+        Ok(SomeStream {
+            link: MemLink::new(self.alloc, Bytes::new(self.alloc)),
+            patience: Some(limit),
+            script: self.script,
+        })
+    }
+
+    fn close(&mut self, stream: SomeStream<'a>, counts: Counts) {
+        self.script.note("close");
+        self.opened.take_back(stream.link, counts);
     }
 }
 
 #[derive(Drop)]
 pub struct SomeStream<'a> {
     link: MemLink,
+    patience: Option<Duration>,
     script: &'a Script,
 }
 
 impl Stream for SomeStream<'_> {
     ghost traffic = { λ s. (told_link s.link).traffic };
+
+    ghost patience = { λ s. option_map as_nanos s.patience };
 
     fn read(&mut self, buf: &mut [u8]) -> io::Result<usize> {
         if self.script.fails("read") {
@@ -266,15 +324,13 @@ impl Stream for SomeStream<'_> {
         self.script.call("end-output")
     }
 
-    fn set_read_limit(&self, limit: Duration) -> io::Result<()> {
+    fn set_read_limit(&mut self, limit: Duration) -> io::Result<()> {
+        self.patience = None;
         self.script.limited(limit, "read-limit")
     }
 
-    fn set_write_limit(&self, limit: Duration) -> io::Result<()> {
-        self.script.limited(limit, "write-limit")
-    }
-
-    fn send_at_once(&self) -> io::Result<()> {
-        self.script.call("send-at-once")
+    fn skip(&mut self, _: &mut [u8]) -> io::Result<usize> {
+        self.script.call("skip")?;
+        Ok(0)
     }
 }

@@ -29,12 +29,12 @@ ghost use Rattle.ats_top.specs.Theorem.{AuditsProof, AuditsText, AuditsBoth, Aud
 use ats_hash::HashKind;
 
 /// If `verify` ends with status 0, it printed rows that are right for every archive whose root is its ROOT: their documents
-/// are a top answer, and their bounds enclose the scores. Or they are wrong and caught: there are two different strings with
-/// equal digests, and each `audit` of the accepted bytes over an index of that archive prints them with status 5, unless
-/// memory runs out or the shelf or the sink fails. The same holds of the rows of `ask`; of the text that `fetch` prints,
-/// which is that of document DOC; of the documents that `both` prints, which are all that have every term of the query; and
-/// of the two numbers of `growth`, under whose roots no text was withdrawn or changed. The accepted bytes are those of the
-/// named file before the run, if the shelf reports its files; for `ask` they are those that arrived.
+/// are a top answer, and their bounds enclose the scores. Or they are wrong and caught: there are two different strings
+/// with equal digests, and each `audit` of the accepted bytes over an index of that archive prints them with status 5,
+/// unless it reports that memory ran out, or the shelf or the sink fails. The same holds of the rows of `ask`; of the text
+/// that `fetch` prints, which is that of document DOC; of the documents that `both` prints, which are all that have every
+/// term of the query; and of the two numbers of `growth`, under whose roots no text was withdrawn or changed. The accepted
+/// bytes are those of the named file before the run, if the shelf reports its files; for `ask` they are those that arrived.
 pub fn printed_answers_are_right<H: HashKind>()
     ensures verify { (root r query proof digest : List ℕ) (n : ℕ) (before now : Outside)
         → root_word root ≡ Some digest → number_of r ≡ Some n

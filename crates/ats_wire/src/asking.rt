@@ -142,8 +142,7 @@ pub(crate) fn read_piece<L: Link>(
     }
 }
 
-// The `size` bytes after a reply's head. Memory grows as they arrive, so a peer that announces many and sends few costs
-// little.
+// The `size` bytes after a reply's head.
 pub(crate) fn read_rest<L: Link>(alloc: Global, link: &mut L, size: u32) -> Result<Bytes, AskFault>
     ensures ok { IfOk result (λ bytes. (length bytes ≡ size) × Moves (L.told link.old) (L.told link.new) bytes [] 0 false) }
     ensures err { IfErr result (λ fault. (came : List ℕ) × Moves (L.told link.old) (L.told link.new) came [] 1 (breaks_link fault)

@@ -1,0 +1,31 @@
+-- What the calls report that stand for those of std.
+use Rattle.std.specs.Prelude.{List, Option, option_map, map}
+use Rattle.ats_base.specs.Outside.{Ask}
+use Rattle.ats_base.specs.Links.{LinkTold}
+use Rattle.ats_base.specs.MemoryLinks.{LinkState, told_link}
+use Rattle.ats_base.specs.declared.outside.Deed.{Deed as ShelfDeed}
+use Rattle.ats_base.specs.declared.outside.Deed.TheVariants.{Read as ShelfRead, Start as ShelfStart, Append as ShelfAppend}
+use Rattle.ats_outside.specs.declared.counts.Counts.{Counts}
+use Rattle.ats_tests_outside.specs.declared.reports.Deed.{Deed}
+use Rattle.ats_tests_outside.specs.declared.reports.Deed.TheVariants.{Read, Start, Append}
+use Rattle.ats_tests_outside.specs.declared.reports.Asks.{Asks}
+use Rattle.ats_tests_outside.specs.declared.reports.Closed.{Closed}
+
+abbrev pub deed_of : Deed → ShelfDeed
+deed_of (Read from) = ShelfRead from
+deed_of Start = ShelfStart
+deed_of Append = ShelfAppend
+
+abbrev pub told_asks : Asks → Option (List Ask)
+told_asks asks = option_map (λ all. map (λ asked. record { name = asked.name; deed = deed_of asked.deed }) all.items) asks.all
+
+abbrev pub told_with : LinkState → Counts → LinkTold
+told_with link counts = record {
+  traffic = (told_link link).traffic;
+  calls = counts.calls;
+  faults = counts.faults.count;
+  last_failed = counts.faults.last_failed;
+}
+
+abbrev pub told_closed : Closed → LinkTold
+told_closed closed = told_with closed.link closed.counts
