@@ -26,20 +26,26 @@ struct ats_verdict {
                                1 to 1,000, or the query is out of its limits; 6 no memory */
     uint32_t reason;        /* 0, or which fault: the first of the list below that the call comes to */
     uint64_t count;         /* how many rows, documents or terms are shown; 0 unless the status is 0 */
-    uint64_t first, second; /* status 0: what the call says; else the numbers of the fault, 0 where it has none */
+    uint64_t first, second; /* status 0: what the call says; else the numbers of the fault as listed below, or 0 */
 };
 
-/* Faults; ats_line has their words, and docs/formats.md what they mean. They are found in the order of these lists.
- * All of a query: 1 not UTF-8 (status 2); 2 r, 3 room for rows (2; first: the room), both by ats_check alone; 4 bytes,
- *   5 no term, 6 words, 7 terms (4). 34 memory (6), at any time.
- * All but ats_query: 8 long, 9 cut, 10 magic, 11 version, 12 algorithm, 13 count, 14 order, 15 trailing (shape).
- * ats_both: 35 not-tra, 36 answer-shown. ats_check, ats_both: 16 other-root, 17 slot-count, 18 dict-misfit,
- *   19 dict-root, 20 slot-wrong, 21 index-out, 22 repeated, 23 list-misfit, 24 list-root, 25 unmet, 26 docs-misfit,
- *   27 docs-root, 28 terms-misfit, 29 terms-root, 30 term-slot. ats_check: 31 answer-out, 32 answer-repeated,
- *   33 not-settled. ats_both: 37 no-whole-list, 38 room for documents (2; first: the room, second: how many there are).
- * ats_text: 16 other-root, 39 doc-out, 40 text-misfit, 41 text-root.
- * ats_growth: 42 other-old, 43 other-new, 44 shrunk, 45 growth-misfit, 46 old-texts, 47 new-texts.
- * ats_query: 48 room for terms (2; first: the room, second: how many there are). */
+/* Faults; ats_line has their words, and docs/formats.md what they mean. They are found in the order of these lists. The
+ * status is 1 unless it stands here. In brackets stands what `first` is, and after a comma what `second` is.
+ * All of a query: 1 not UTF-8 (status 2); by ats_check alone then 2 r (r; status 4), 3 room for rows (the room; status
+ *   2); and then, with status 4, 4 bytes (how many), 5 no term, 6 words (how many), 7 terms (how many distinct).
+ *   34 memory (status 6), at any time.
+ * All but ats_query, of the shape: 8 long (the limit); 9 cut, 10 magic, 11 version, 12 algorithm, 13 count, 14 order,
+ *   15 trailing (the offset in the file).
+ * ats_both: 35 not-tra, 36 answer-shown (rows). ats_check, ats_both: 16 other-root, 17 slot-count (how many are shown),
+ *   18 dict-misfit, 19 dict-root, 20 slot-wrong (term), 21 index-out (term, entry), 22 repeated (term, entry),
+ *   23 list-misfit (term), 24 list-root (term), 25 unmet (index), 26 docs-misfit, 27 docs-root,
+ *   28 terms-misfit (document), 29 terms-root (document), 30 term-slot (document, term). ats_check: 31 answer-out
+ *   (row), 32 answer-repeated (row), 33 not-settled. ats_both: 37 no-whole-list, 38 room for documents (the room, how
+ *   many there are; status 2).
+ * ats_text: 16 other-root, 39 doc-out (documents), 40 text-misfit (digests), 41 text-root.
+ * ats_growth: 42 other-old, 43 other-new, 44 shrunk (old documents, new), 45 growth-misfit (digests), 46 old-texts,
+ *   47 new-texts.
+ * ats_query: 48 room for terms (the room, how many there are; status 2). */
 
 /* In all calls: a root is 32 bytes (not its digits); a query is query_size bytes of UTF-8. With status 0 what is shown
  * is in the first verdict->count places of its array, and the rest is as it was. With any other, all of it is. */
@@ -68,8 +74,9 @@ void ats_growth(const uint8_t *file, size_t file_size, const uint8_t *old_root, 
 void ats_query(const uint8_t *query, size_t query_size, struct ats_term *terms, size_t room,
                struct ats_verdict *verdict);
 
-/* Writes the line that a command prints for a verdict of status 1 or 4, without a line feed or a 0 byte, to text, which
- * has room for `room` bytes; 128 are always enough. For the status 0 it is empty: print what is shown.
+/* Writes the line of a verdict, without a line feed or a 0 byte, to text, which has room for `room` bytes; 128 are
+ * always enough. With status 1, 4 and 6 it is the line that a command prints; with 2 it begins with `usage: ` and says
+ * what is wrong, as no command does. With 0 it is empty: print what is shown.
  * Returns 0, and *size is the size of the line; 2 if there is too little room, and *size is the same, but text is as
  * it was; 6 if there is no memory, and both are as they were. */
 uint32_t ats_line(const struct ats_verdict *verdict, uint8_t *text, size_t room, size_t *size);

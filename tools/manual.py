@@ -1,115 +1,46 @@
-"""Writes the manual page and the completions of shells from the tables of docs/formats.md.
+"""Writes the manual page and the completions of shells, from what the launcher's help is made of (launcher/commands.py).
 
 usage: python3 tools/manual.py man | bash | zsh | fish
 
-Prints the page or the completion. The commands, their words and what they do are those of the table of commands, and the
-statuses those of the table of statuses, so the two never differ from docs/formats.md.
+Prints the page or the completion.
 """
 
 import re
 import sys
 from pathlib import Path
-from typing import NamedTuple
 
-FORMATS = Path(__file__).resolve().parent.parent / "docs" / "formats.md"
-
-# Typed in this order, in a folder with the sample archive, each of these ends with status 0.
-ROOT = "$(ats root archive.index)"
-EXAMPLES = {
-    "build": "ats build archive.json archive.index",
-    "rank": 'ats rank archive.json 3 "blood count"',
-    "root": "ats root archive.index",
-    "prove": 'ats prove archive.index tnra 3 "blood count" answer.proof',
-    "verify": f'ats verify {ROOT} 3 "blood count" answer.proof',
-    "audit": 'ats audit archive.index 3 "blood count" answer.proof',
-    "sweep": "echo '3 answer.proof blood count' >list; ats sweep archive.index list",
-    "trial": "ats trial 0",
-    "migrate": "ats migrate archive.index blocks.index",
-    "give": "ats give archive.index 31 runner.text",
-    "fetch": f"ats fetch {ROOT} 31 runner.text",
-    "audit-fetch": "ats audit-fetch archive.index 31 runner.text",
-    "prove-both": 'ats prove-both archive.index "blood count" all.proof',
-    "both": f'ats both {ROOT} "blood count" all.proof',
-    "audit-both": 'ats audit-both archive.index "blood count" all.proof',
-    "grow": "ats grow archive.index blocks.index growth.file",
-    "growth": f"ats growth {ROOT} $(ats root blocks.index) growth.file",
-    "audit-growth": "ats audit-growth archive.index blocks.index growth.file",
-    "serve": "ats serve archive.index 1 127.0.0.1:7070 &",
-    "ask": f'sleep 1; ats ask {ROOT} tnra 3 "blood count" 127.0.0.1:7070',
-}
-
-FILES = {"COLLECTION", "INDEX", "INDEX2", "OLDINDEX", "NEWINDEX", "PROOF", "LIST", "FILE"}
-
-# Each command may end with 0, 2, 6 and 7, and with a status below if it takes one of these words, or its name begins so.
-# tests/package.py compares this with docs/theorems.md.
-ENDS = {
-    1: {"ROOT", "OLDROOT", "audit", "sweep"},
-    3: FILES,
-    4: {"COLLECTION", "INDEX", "OLDINDEX", "R", "QUERY", "trial"},
-    5: {"audit", "sweep"},
-    8: {"ADDRESS"},
-    9: {"ask"},
-    10: {"serve"},
-}
-
-
-class Command(NamedTuple):
-    """A command, its words, and what it does."""
-
-    name: str
-    words: list[str]
-    does: str
-
-
-def table(text: str, heading: str) -> list[list[str]]:
-    """The rows of the first table after the line that begins so, without its head."""
-    rows = text[text.index(heading):].split("\n\n")
-    found = next(part for part in rows[1:] if part.startswith("|"))
-    return [[cell.strip() for cell in re.split(r"(?<!\\)\|", line)[1:-1]] for line in found.splitlines()[2:]]
-
-
-def commands(text: str) -> list[Command]:
-    found = []
-    for typed, does in table(text, "## What the commands are called with"):
-        name, *words = typed.strip("`").split()
-        found.append(Command(name, words, does))
-    return found
-
-
-def statuses(text: str) -> list[list[str]]:
-    return table(text, "Any other status has one line.")
-
-
-def ends(command: Command) -> list[int]:
-    """The statuses with which a command may end."""
-    own = {command.name.partition("-")[0], *command.words}
-    return sorted({0, 2, 6, 7, *(status for status, causes in ENDS.items() if causes & own)})
+sys.path.append(str(Path(__file__).resolve().parent.parent / "launcher"))
+from commands import ABOUT, EXAMPLES, FILES, FORMATS, OPTIONS, commands, ends, lines, outputs, statuses, table  # noqa: E402
+from commands import plain as unmarked  # noqa: E402
 
 
 def plain(markdown: str) -> str:
     """Text without links and marks, in which roff reads nothing as its own."""
-    text = re.sub(r"\[([^]]*)\]\([^)]*\)", r"\1", markdown).replace("`", "")
-    return re.sub(r"^([.'])", r"\\&\1", text.replace("\\", "\\e").replace("-", "\\-"), flags=re.M)
+    return re.sub(r"^([.'])", r"\\&\1", unmarked(markdown).replace("\\", "\\e").replace("-", "\\-"), flags=re.M)
+
+
+def tagged(head: str, body: str, font: str = ".B") -> "list[str]":
+    """An item: what it is of, and its text."""
+    return [".TP", f"{font} {plain(head)}", f"{plain(body[0].upper() + body[1:])}."]
 
 
 def manual(text: str) -> str:
-    lines = ['.TH ATS 1 "" "ats" "User Commands"', ".SH NAME", "ats \\- search with proofs in an archive that one root names",
-             ".SH SYNOPSIS"]
+    page = ['.TH ATS 1 "" "ats" "User Commands"', ".SH NAME", "ats \\- search with proofs in an archive that one root names", ".SH SYNOPSIS"]
     for command in commands(text):
-        lines += [f".B ats {plain(command.name)}", f".I {plain(' '.join(command.words))}", ".br"]
-    lines += [".SH DESCRIPTION", "The owner of an archive indexes it and publishes one SHA\\-256 digest, the root. A server "
-              "answers ranked queries with proofs. A reader who holds only the root checks them.", ".SH COMMANDS"]
+        page += [f".B ats {plain(command.name)}", f".I {plain(' '.join(command.words))}", ".br"]
+    page += [".SH DESCRIPTION", plain(ABOUT), ".SH COMMANDS"]
     for command in commands(text):
-        lines += [".TP", f".B {plain(command.name)} \\fI{plain(' '.join(command.words))}\\fR",
-                  plain(command.does[0].upper() + command.does[1:]) + ".", ".IP",
-                  f"Ends with {', '.join(map(str, ends(command)))}.", ".IP", f".nf\n{plain(EXAMPLES[command.name])}\n.fi"]
-    lines += [".SH WORDS"]
-    for word, means in table(text, "Each word has its place"):
-        lines += [".TP", f".I {plain(word)}", plain(means) + "."]
-    lines += [".SH EXIT STATUS"]
+        page += [*tagged(" ".join([command.name, *command.words]), command.does), ".IP",
+                 f"Ends with {', '.join(map(str, ends(command)))}.", ".IP", f".nf\n{plain(EXAMPLES[command.name])}\n.fi"]
+    page += [".SH HELP", *(line for option in OPTIONS.items() for line in tagged(*option)), ".SH WORDS"]
+    page += [line for word, means in table(text, "Each word has its place") for line in tagged(word, means, ".I")]
+    page += [".SH OUTPUT", *(line for item in outputs(text) for line in (".PP", ".nf" if "\n\n" in item else ".fi", plain(item).strip(), ".fi"))]
+    page += [".SH EXIT STATUS"]
     for status, printed, when in statuses(text):
-        lines += [".TP", f".B {status}", plain(f"{when[0].upper()}{when[1:]}. It prints {printed}.")]
-    return "\n".join(lines) + "\n"
+        page += tagged(status, f"{when}. It prints {printed}")
+    page += [".SH LINES"]
+    page += [line for head, printed, when in lines(text) for line in tagged(head + printed, when)]
+    return "\n".join(page) + "\n"
 
 
 def bash(text: str) -> str:

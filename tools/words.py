@@ -11,14 +11,15 @@ from pathlib import Path
 HOUSE = Path(__file__).resolve().parent.parent
 # The pages that share a limit, and the limit.
 LIMITS = {
-    ("README.md",): 1900,
+    ("README.md",): 1700,
     ("docs/architecture.md",): 2300,
     ("docs/DECISIONS.md",): 4500,
-    ("docs/definitions.md",): 4000,
-    ("docs/theorems.md",): 6500,
-    ("docs/formats.md",): 8400,
-    ("docs/client.md",): 9000,
-    ("docs/questions.md", "docs/trust.md"): 2600,
+    ("docs/definitions.md",): 4250,
+    ("docs/theorems.md",): 6750,
+    ("docs/formats.md",): 8850,
+    ("docs/client.md",): 9150,
+    ("docs/questions.md", "docs/trust.md"): 2590,
+    ("docs/owners.md", "docs/service.md"): 1715,
     ("bench/README.md", "vectors/README.md"): 3100,
 }
 

@@ -1,4 +1,5 @@
-# How ./prove proves crates side by side. It has set home, work and top, the crate that all others are for.
+# How ./prove proves crates side by side. It has set home, notes, a folder of what is done, and top, the crate that all others
+# are for.
 
 # Where crates are proved: the gate refuses Rattle files that it does not check, and does not look here.
 places=$home/.git/ats-places
@@ -32,21 +33,20 @@ rooms() {
 
 progress() {
     at=$(cat "$places"/*/room 2>/dev/null | tr '\n' ' ')
-    echo "$(ls "$work" | grep -c '^proved-') of $(wc -l <"$work/rooms") crates proved; at ${at:-$top}"
+    echo "$(ls "$notes" | grep -c '^proved-') of $(wc -l <"$notes/rooms") crates proved; at ${at:-$top}"
 }
 
 # Waits a second. Ends if the script was killed and could not end its parts.
 pause() {
     sleep 1
-    is_running "$own" || exit 1
+    [ -e "/proc/$$/exe" ] || exit 1
 }
 
 # The first crate is made, and no source of it or of those below it, which are named after it, is newer.
 is_made() {
     stamp=$home/crates/$1/out/rlib/stamp
-    [ -e "$stamp" ] || return 1
     for below; do
-        ! is_older "$stamp" "$home/crates/$below" || return 1
+        is_fresh "$stamp" "$home/crates/$below"/*/ || return 1
     done
 }
 
@@ -93,9 +93,9 @@ prove_in_place() {
     jobs=2
     [ "$(ls "$places" | wc -l)" -gt 1 ] || jobs=$width
     echo "$1" >"$place/room"
-    (cd -- "$place/crates/$1" && exec rt lib --jobs "$jobs" --statements) >"$work/$1.log" 2>&1 </dev/null &
+    (cd -- "$place/crates/$1" && exec rt lib --jobs "$jobs" --statements) >"$notes/$1.log" 2>&1 </dev/null &
     checking=$!
-    while is_child "$checking"; do
+    while kill -0 "$checking" 2>/dev/null; do
         pause
     done
     wait "$checking"
@@ -113,15 +113,15 @@ prove_room() {
     room=$1
     shift
     for below; do
-        until [ -e "$work/proved-$below" ]; do
-            [ ! -e "$work/unproved" ] || exit 1
+        until [ -e "$notes/proved-$below" ]; do
+            [ ! -e "$notes/unproved" ] || exit 1
             pause
         done
     done
     if is_made "$room" "$@" || { take_place && prove_in_place "$room" "$@"; }; then
-        : >"$work/proved-$room"
+        : >"$notes/proved-$room"
     else
-        : >"$work/unproved"
+        : >"$notes/unproved"
     fi
 }
 
@@ -134,7 +134,7 @@ prove_rooms() {
         [ "$room" != "$top" ] || continue
         prove_room "$room" $below &
         proving="$proving $!"
-    done <"$work/rooms"
+    done <"$notes/rooms"
     wait
     proving=
 }
