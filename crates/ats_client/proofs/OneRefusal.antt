@@ -81,7 +81,7 @@ exact_sections H root query proof =
       ),
     )
 
-exact_shown : (H : List ℕ → List ℕ) (root : List ℕ) (query : List (List ℕ × ℕ)) (proof : Proof) → AreExact (shown_rules H root query proof)
+pub exact_shown : (H : List ℕ → List ℕ) (root : List ℕ) (query : List (List ℕ × ℕ)) (proof : Proof) → AreExact (shown_rules H root query proof)
 exact_shown H root query proof =
     exact_both (section_rules H root query proof) (row_rule proof ∷ []) (exact_sections H root query proof)
     (record { breaks = not_rows proof.met proof.answer; one = one_row proof.met proof.answer }, tt)

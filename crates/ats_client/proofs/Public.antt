@@ -21,6 +21,8 @@ pub use Rattle.ats_client.proofs.OneRefusal.{one_shown_refusal, not_both_shown}
 pub use Rattle.ats_client.proofs.OneRefusal.{section_rules_do_not_hold}
 -- one rule of what a proof shows fails first
 pub use Rattle.ats_client.proofs.OneRefusal.{one_section}
+-- each rule before the settling fails in one way, and does then not hold
+pub use Rattle.ats_client.proofs.OneRefusal.{exact_shown}
 -- no rule of what a proof shows fails as not settled
 pub use Rattle.ats_client.proofs.Sectioned.{never_unsettled}
 -- a refused proof without rows breaks a rule of what it shows, or keeps them and is not settled

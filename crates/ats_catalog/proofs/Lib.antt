@@ -1,0 +1,12 @@
+mod Shifted
+mod Merges
+mod Falls
+mod Steps
+mod Tagged
+mod RestsAreTop
+mod Taken
+mod Soundness
+mod Refusals
+mod Left
+mod Settling
+pub mod Public
