@@ -1,11 +1,10 @@
 pub mod Public
-mod OneList
+mod OneListed
 mod OneCollision
 mod OneFinding
 mod OneTrial
 mod AuditEnds
 mod FoundGrows
-mod ListLines
 mod ListCuts
 mod ListEntries
 mod Gathers

@@ -7,7 +7,7 @@ use Rattle.std.specs.Char.{is_ascii_digit}
 use Rattle.std.specs.Str.{IsUtf8}
 use Rattle.ats_console.specs.Words.{number_of}
 use Rattle.ats_auditors.specs.Listed.{Listed, IsSpelled, is_unspaced}
-use Rattle.ats_auditors.proofs.OneList.{parts_one, number_digits}
+use Rattle.ats_auditors.proofs.OneListed.{parts_one, number_digits}
 
 -- all before the first that fails a test pass it
 clear : (q : ℕ → Bool) (s : List ℕ) → list_all q (take (prefix_len q s) s) ≡ true

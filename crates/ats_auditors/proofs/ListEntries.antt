@@ -1,12 +1,14 @@
 -- What the lines of a list ask for, line by line.
-use Rattle.std.proofs.Common.{◌≡◌, ◌⊎◌, ◌++◌, ◌∷◌, ◌<◌, ◌≤◌, ◌+◌, ℕ, List, [], length, refl, sym, ap, subst, ◌∙◌, inl, inr, arith, append-nil, append_assoc}
+use Rattle.std.proofs.Common.{◌≡◌, ◌⊎◌, ◌∷◌, ◌<◌, ◌≤◌, ◌+◌, ℕ, List, [], length, refl, sym, ap, subst, ◌∙◌, inl, inr, arith}
 use Rattle.std.specs.List.{AllZip}
 use Rattle.std.proofs.lemmas.Slice.Zip.{AllZip-long}
 use Rattle.ats_terms.specs.Query.{HasQuery}
-use Rattle.ats_auditors.specs.Listed.{Listed, lines_of, IsListed, IsListOf, IsBadLine, names_of}
+use Rattle.ats_console.specs.Lists.{lines_of, IsListOf, IsBadLine}
+use Rattle.ats_console.proofs.Public.{AreRead, next_bad}
+use Rattle.ats_auditors.specs.Listed.{Listed, IsListed, names_of}
 use Rattle.ats_auditors.specs.Inner.Sweeping.{IsEntry, IsSpelledAs, entry_names}
 use Rattle.ats_auditors.specs.declared.listing.Entry.{Entry}
-use Rattle.ats_auditors.proofs.OneList.{one_spelled}
+use Rattle.ats_auditors.proofs.OneListed.{one_spelled}
 
 -- ---- one line
 
@@ -50,53 +52,23 @@ listed_names (line ∷ lines) (entry ∷ entries) are =
 
 -- the list of the entries that were read
 pub list_is : (bytes : List ℕ) (entries : List Entry) (are : AllZip IsEntry (lines_of bytes) entries) → 1 ≤ length entries → length entries ≤ 1000
-    → IsListOf bytes (listed_of (lines_of bytes) entries are)
+    → IsListOf IsListed 1000 bytes (listed_of (lines_of bytes) entries are)
 list_is bytes entries are some few =
     let each = listed_are (lines_of bytes) entries are in
     let long = AllZip-long IsListed (lines_of bytes) (listed_of (lines_of bytes) entries are) each in
     let other = AllZip-long IsEntry (lines_of bytes) entries are in
     record { some = omega (arith, long, other, some); few = omega (arith, long, other, few); each = each }
 
-one_more : (lines : List (List ℕ)) (entries : List Entry) (line : List ℕ) (entry : Entry) → AllZip IsEntry lines entries → IsEntry line entry
-    → AllZip IsEntry (lines ++ line ∷ []) (entries ++ entry ∷ [])
-one_more [] [] line entry are is = (is, tt)
-one_more [] (e ∷ entries) line entry are is = absurd are
-one_more (l ∷ lines) [] line entry are is = absurd are
-one_more (l ∷ lines) (e ∷ entries) line entry are is = (are.0, one_more lines entries line entry are.1 is)
-
--- the lines before the rest ask for this
-pub record AreRead (bytes rest : List ℕ) (entries : List Entry) : Type 0 where
-  pub done : List (List ℕ)
-  pub parts : lines_of bytes ≡ done ++ lines_of rest
-  pub are : AllZip IsEntry done entries
-
-pub read_more : (bytes rest line after : List ℕ) (entries : List Entry) (entry : Entry) → AreRead bytes rest entries → lines_of rest ≡ line ∷ lines_of after
-    → IsEntry line entry → AreRead bytes after (entries ++ entry ∷ [])
-read_more bytes rest line after entries entry read next is = record {
-  done = read.done ++ line ∷ [];
-  parts = read.parts ∙ ap (λ (lines : List (List ℕ)). read.done ++ lines) next ∙ sym (append_assoc read.done (line ∷ []) (lines_of after));
-  are = one_more read.done entries line entry read.are is;
-}
-
-pub all_read : (bytes : List ℕ) (entries : List Entry) → AreRead bytes [] entries → AllZip IsEntry (lines_of bytes) entries
-all_read bytes entries read =
-    subst (λ (lines : List (List ℕ)). AllZip IsEntry lines entries) (sym (read.parts ∙ append-nil read.done)) read.are
-
--- all lines are read if nothing is left
-pub as_many_read : (bytes rest : List ℕ) (entries : List Entry) → AreRead bytes rest entries → length rest ≡ 0 → length entries ≡ length (lines_of bytes)
-as_many_read bytes [] entries read none = AllZip-long IsEntry (lines_of bytes) entries (all_read bytes entries read)
-as_many_read bytes (byte ∷ rest) entries read none = absurd (omega (arith, none))
+-- what was read of a list, as what its lines ask for
+read_listed : (bytes rest : List ℕ) (entries : List Entry) (read : AreRead IsEntry bytes rest entries) → AreRead IsListed bytes rest (listed_of read.done entries read.are)
+read_listed bytes rest entries read = record { done = read.done; parts = read.parts; are = listed_are read.done entries read.are }
 
 -- the next line is bad
-pub next_bad : (bytes rest line after : List ℕ) (entries : List Entry) → AreRead bytes rest entries → lines_of rest ≡ line ∷ lines_of after
-    → length (lines_of bytes) ≤ 1000 → ((listed : Listed) → IsListed line listed → ⊥) → IsBadLine (lines_of bytes) (length entries + 1)
-next_bad bytes rest line after entries read next few bad = inr (inr (record {
-  few = few;
-  before = read.done;
-  line = line;
-  after = lines_of after;
-  parts = read.parts ∙ ap (λ (lines : List (List ℕ)). read.done ++ lines) next;
-  good = (listed_of read.done entries read.are, listed_are read.done entries read.are);
-  bad = bad;
-  counted = ap (λ (n : ℕ). n + 1) (AllZip-long IsEntry read.done entries read.are);
-}))
+pub next_line_bad : (bytes rest line after : List ℕ) (entries : List Entry) → AreRead IsEntry bytes rest entries → lines_of rest ≡ line ∷ lines_of after
+    → length (lines_of bytes) ≤ 1000 → ((listed : Listed) → IsListed line listed → ⊥) → IsBadLine IsListed 1000 (lines_of bytes) (length entries + 1)
+next_line_bad bytes rest line after entries read next few bad =
+    let listed = listed_of read.done entries read.are in
+    let same : length listed ≡ length entries =
+    AllZip-long IsListed read.done listed (listed_are read.done entries read.are) ∙ sym (AllZip-long IsEntry read.done entries read.are) in
+    subst (λ (n : ℕ). IsBadLine IsListed 1000 (lines_of bytes) (n + 1)) same
+    (next_bad IsListed 1000 bytes rest line after listed (read_listed bytes rest entries read) next few bad)

@@ -5,7 +5,7 @@ use Rattle.ats_terms.specs.Query.{IsQueryOf}
 use Rattle.ats_commit.specs.Archive.{Archive}
 use Rattle.ats_commit.specs.Root.{root_of}
 use Rattle.ats_proof.specs.Value.{Proof}
-use Rattle.ats_console.proofs.Public.{one_accepted}
+use Rattle.ats_console.proofs.Public.{one_accepted, same_zip}
 use Rattle.ats_client.specs.Bytes.{IsRejectedBytes, IsAcceptedBytes}
 use Rattle.ats_client.specs.Rows.{rows_of}
 use Rattle.ats_client.specs.Strings.{proof_collision}
@@ -16,7 +16,6 @@ use Rattle.ats_auditors.specs.Findings.{Finding, FoundRight, FoundRefused, Found
 use Rattle.ats_auditors.specs.declared.gathering.Gathered.{Gathered}
 use Rattle.ats_auditors.specs.declared.gathering.Gathered.TheVariants.{Whole, Long}
 use Rattle.ats_auditors.proofs.OneCollision.{none_found, one_found}
-use Rattle.ats_auditors.proofs.OneList.{same_zip}
 
 module _ (H : List ℕ → List ℕ) (archive : Archive) (query : List (List ℕ × ℕ)) (r : ℕ) (bytes : List ℕ) where
   -- what is found for the bytes, as an answer to the query

@@ -1,25 +1,24 @@
 -- The plan of each command goes one way at most, and stops none for its words.
-use Rattle.std.proofs.Common.{◌≡◌, ◌≤◌, ◌^◌, ◌++◌, ◌∷◌, ◌∙◌, ℕ, Bool, true, false, List, [], Option, sym, ap, arith, true≢false}
+use Rattle.std.proofs.Common.{◌≡◌, ◌≤◌, ◌^◌, ◌++◌, ◌∷◌, ◌∙◌, ℕ, Bool, true, false, List, [], Option, sym, arith, true≢false}
 use Rattle.std.specs.List.{list_any}
 use Rattle.ats_tree.specs.Differences.{Difference}
 use Rattle.ats_commit.specs.Archive.{Archive}
 use Rattle.ats_commit.specs.Root.{root_of}
 use Rattle.ats_plan.specs.Plan.{Plan, Tries}
-use Rattle.ats_plan.specs.Inner.Sound.{IsExact, IsOne}
+use Rattle.ats_plan.specs.Inner.Sound.{IsExact}
 use Rattle.ats_console.specs.Words.{AuditorCommand, Audit, AuditFetch, AuditBoth, AuditGrowth, Sweep, Trial, SweepWords}
-use Rattle.ats_console.specs.Stops.{line_of_bad_line}
 use Rattle.ats_console.specs.declared.stops.Stop.{Stop}
-use Rattle.ats_console.specs.declared.stops.Stop.TheVariants.{Input, Rejected, Collision}
-use Rattle.ats_console.proofs.Public.{Sound, ends, fails, tries, gets, makes, reads, not_input, not_rejected, not_collision, query_sound, ranking_sound, index_sound, checks_sound, named_sound, text_one, both_one, growth_one}
-use Rattle.ats_auditors.specs.Listed.{Listed, lines_of, IsListOf, names_of}
+use Rattle.ats_console.specs.declared.stops.Stop.TheVariants.{Rejected, Collision}
+use Rattle.ats_console.proofs.Public.{Sound, ends, fails, tries, gets, makes, reads, not_input, not_rejected, not_collision, list_one, query_sound, ranking_sound, index_sound, checks_sound, named_sound, text_one, both_one, growth_one}
+use Rattle.ats_auditors.specs.Listed.{IsListed, names_of}
 use Rattle.ats_auditors.specs.Gathered.{total}
 use Rattle.ats_auditors.specs.Findings.{Finding, is_refused, is_collision, lines_of_findings}
 use Rattle.ats_auditors.specs.Trial.{IsTrialAccepted, RefusesTrial}
 use Rattle.ats_auditors.specs.Collided.{finds_none}
-use Rattle.ats_auditors.specs.Commands.{auditor_plan, IsListStop, PassesSweepLimit, gathers, concludes, audits, sweeps}
+use Rattle.ats_auditors.specs.Commands.{auditor_plan, PassesSweepLimit, gathers, concludes, audits, sweeps}
 use Rattle.ats_auditors.specs.declared.gathering.Gathered.{Gathered}
 use Rattle.ats_auditors.specs.declared.gathering.Gathered.TheVariants.{Whole, Long}
-use Rattle.ats_auditors.proofs.OneList.{one_list, no_bad_line, one_bad_line}
+use Rattle.ats_auditors.proofs.OneListed.{one_listed}
 use Rattle.ats_auditors.proofs.OneFinding.{one_findings}
 use Rattle.ats_auditors.proofs.OneCollision.{collision_exact}
 use Rattle.ats_auditors.proofs.OneTrial.{trial_not_refused, one_trial}
@@ -27,16 +26,6 @@ use Rattle.ats_auditors.proofs.OneTrial.{trial_not_refused, one_trial}
 none_sound : {P : Type 0} {H : List ℕ → List ℕ} {first : Option (Difference P)} {lines_of : Difference P → List ℕ} {rest : Plan Stop} → Sound rest
     → Sound (finds_none H first lines_of rest)
 none_sound {H = H} {first = first} {lines_of = lines_of} later = tries (collision_exact H first lines_of) (λ stops. not_collision stops.2) later
-
-list_not_refused : (bytes : List ℕ) (listed : List Listed) (stop : Stop) → IsListStop bytes stop → IsListOf bytes listed → ⊥
-list_not_refused bytes listed stop (number, bad, same) is = no_bad_line bytes listed is number bad
-
-one_list_stop : (bytes : List ℕ) (a b : Stop) → IsListStop bytes a → IsListStop bytes b → a ≡ b
-one_list_stop bytes a b (number, is, same) (other, also, like) =
-    same ∙ ap (λ (line : ℕ). Input (line_of_bad_line line)) (one_bad_line (lines_of bytes) number other is also) ∙ sym like
-
-list_one : (bytes : List ℕ) → IsOne (IsListOf bytes) (IsListStop bytes)
-list_one bytes = record { single = one_list bytes; breaks = list_not_refused bytes; one = one_list_stop bytes }
 
 sweep_limit_exact : (bytes : ℕ) → IsExact (bytes ≤ 2 ^ 28) (PassesSweepLimit bytes)
 sweep_limit_exact bytes = record {
@@ -66,7 +55,7 @@ concludes_sound findings later =
 
 sweeps_sound : (H : List ℕ → List ℕ) (words : SweepWords) (archive : Archive) (bytes : List ℕ) → Sound (sweeps H words archive bytes)
 sweeps_sound H words archive bytes =
-    gets (list_one bytes) (λ stops. not_input stops.2) (λ listed. gathers_sound {rest = audits H words archive listed} [] (names_of listed)
+    gets (list_one IsListed 1000 one_listed bytes) (λ stops. not_input stops.2) (λ listed. gathers_sound {rest = audits H words archive listed} [] (names_of listed)
     (λ proofs. makes (one_findings H archive listed proofs) (λ findings. concludes_sound findings ends)))
 
 trial_exact : (H : List ℕ → List ℕ) (number : ℕ) → IsExact (IsTrialAccepted H number) (RefusesTrial H number)

@@ -13,12 +13,13 @@ use Rattle.ats_plan.specs.Runs.{IsDone, IsStopped}
 use Rattle.ats_plan.proofs.Public.{Leads, leads_none, leads_try, leads_get, leads_make, at_try, done_end}
 use Rattle.ats_console.specs.Words.{SweepWords}
 use Rattle.ats_console.specs.Read.{HasIndex}
-use Rattle.ats_auditors.specs.Listed.{Listed, lines_of, IsListOf, names_of}
+use Rattle.ats_console.specs.Lists.{lines_of, IsListOf, IsListStop}
+use Rattle.ats_auditors.specs.Listed.{Listed, IsListed, names_of}
 use Rattle.ats_auditors.specs.Inner.Sweeping.{IsEntry, AreJobs, entry_names, findings_of, IsReport, ConclusionStop}
 use Rattle.ats_auditors.specs.Gathered.{AreGathered}
 use Rattle.ats_auditors.specs.Findings.{Finding, AreFound, AreFindings, IsSwept}
 use Rattle.ats_console.specs.Steps.{no_more, comes_to}
-use Rattle.ats_auditors.specs.Commands.{IsListStop, gathers, concludes, audits, sweeps}
+use Rattle.ats_auditors.specs.Commands.{gathers, concludes, audits, sweeps}
 use Rattle.ats_auditors.specs.declared.gathering.Gathered.{Gathered}
 use Rattle.ats_auditors.specs.declared.listing.Entry.{Entry}
 use Rattle.ats_auditors.specs.declared.sweeping.Report.{Report}
@@ -49,14 +50,14 @@ verdicts_of H archive js jobs verdicts vs same also found =
 
 module _ (H : List ℕ → List ℕ) (words : SweepWords) (archive : Archive) (bytes : List ℕ) where
   -- a list of which no entries were read
-  pub list_stops : (before : ShelfTold) (stop : Stop) → (stop ≡ Memory) ⊎ IsListStop bytes stop → IsStopped Shelf Memory (sweeps H words archive bytes) before before stop
+  pub list_stops : (before : ShelfTold) (stop : Stop) → (stop ≡ Memory) ⊎ IsListStop IsListed 1000 bytes stop → IsStopped Shelf Memory (sweeps H words archive bytes) before before stop
   list_stops before stop is = get_stops {rest = λ (listed : List Listed). gathers [] (names_of listed) (audits H words archive listed)} leads_none is
 
   module _ (entries : List Entry) (are : AllZip IsEntry (lines_of bytes) entries) (some : 1 ≤ length entries) (few : length entries ≤ 1000) where
     abbrev listed : List Listed
     listed = listed_of (lines_of bytes) entries are
 
-    list : IsListOf bytes listed
+    list : IsListOf IsListed 1000 bytes listed
     list = list_is bytes entries are some few
 
     names : names_of listed ≡ entry_names entries

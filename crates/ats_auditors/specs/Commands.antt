@@ -21,7 +21,8 @@ use Rattle.ats_console.specs.Kinds.{printed_text, line_of_grown}
 use Rattle.ats_console.specs.Print.{lines, lines_of_documents}
 use Rattle.ats_console.specs.Read.{HasIndex}
 use Rattle.ats_console.specs.Steps.{AsksRanking, asks_ranking, reads_index, asks_query, reads_file}
-use Rattle.ats_console.specs.Stops.{line_of_bad_line, line_of_long_proofs}
+use Rattle.ats_console.specs.Lists.{IsListOf, IsListStop}
+use Rattle.ats_console.specs.Stops.{line_of_long_proofs}
 use Rattle.ats_console.specs.Words.{AuditorCommand, AuditWords, AuditFetchWords, AuditBothWords, AuditGrowthWords, SweepWords, TrialWords}
 use Rattle.ats_console.specs.declared.stops.Stop.{Stop}
 use Rattle.ats_console.specs.declared.stops.Stop.TheVariants.{Input, Rejected, Collision}
@@ -29,7 +30,7 @@ use Rattle.ats_auditors.specs.Audited.{proof_audit, audits_named, text_audit, bo
 use Rattle.ats_auditors.specs.Collided.{IsClear}
 use Rattle.ats_auditors.specs.Findings.{Finding, AreFindings, IsSwept, is_refused, is_collision, lines_of_findings}
 use Rattle.ats_auditors.specs.Gathered.{total}
-use Rattle.ats_auditors.specs.Listed.{Listed, lines_of, IsListOf, IsBadLine, names_of}
+use Rattle.ats_auditors.specs.Listed.{Listed, IsListed, names_of}
 use Rattle.ats_auditors.specs.Trial.{IsTrial, IsTrialAccepted, RefusesTrial}
 use Rattle.ats_auditors.specs.declared.gathering.Gathered.{Gathered}
 use Rattle.ats_auditors.specs.declared.gathering.Gathered.TheVariants.{Whole, Long}
@@ -117,10 +118,6 @@ audit_growth_plan H words =
 
 -- ---- `sweep INDEX LIST`
 
--- the line is that of the first line of the list that is out of form
-abbrev pub IsListStop : (bytes : List ℕ) → Stop → Type 0
-IsListStop bytes stop = (number : ℕ) × IsBadLine (lines_of bytes) number × (stop ≡ Input (line_of_bad_line number))
-
 -- the bytes together are more than a sweep may gather
 abbrev pub PassesSweepLimit : (bytes : ℕ) → Stop → Type 0
 PassesSweepLimit bytes stop = (2 ^ 28 < bytes) × (stop ≡ Input (line_of_long_proofs bytes))
@@ -154,7 +151,7 @@ audits H words archive listed proofs =
 -- the bytes of a list, against the archive of the index
 abbrev pub sweeps : (List ℕ → List ℕ) → SweepWords → Archive → (bytes : List ℕ) → Plan Stop
 sweeps H words archive bytes =
-    Gets (List Listed) (IsListOf bytes) (IsListStop bytes) (λ listed.
+    Gets (List Listed) (IsListOf IsListed 1000 bytes) (IsListStop IsListed 1000 bytes) (λ listed.
     gathers [] (names_of listed) (audits H words archive listed))
 
 abbrev pub sweep_plan : (List ℕ → List ℕ) → SweepWords → Plan Stop

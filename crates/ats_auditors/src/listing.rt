@@ -1,13 +1,13 @@
 //! The list of a sweep: its lines, and what each asks for.
 
-ghost use Rattle.std.specs.Prelude.{◌≡◌, ◌≢◌, ◌⊎◌, ◌≤◌, ◌<◌, ◌∷◌, [], length, IfOk, IfErr, MatchOption};
+ghost use Rattle.std.specs.Prelude.{◌≡◌, ◌⊎◌, ◌≤◌, length, IfOk, IfErr, MatchOption};
 ghost use Rattle.std.specs.List.{AllZip};
-ghost use Rattle.ats_auditors.specs.Listed.{Listed, IsSpelled, IsListed, lines_of};
+ghost use Rattle.ats_auditors.specs.Listed.{Listed, IsSpelled, IsListed};
 ghost use Rattle.ats_auditors.specs.Inner.Sweeping.{IsEntry, IsSpelledAs};
-ghost use Rattle.ats_auditors.specs.Commands.{IsListStop};
+ghost use Rattle.ats_console.specs.Lists.{IsListStop, lines_of};
 ghost use Rattle.ats_console.specs.declared.stops.Stop.TheVariants.{Memory};
 
-use ats_console::{Stop, bad_line, number};
+use ats_console::{Stop, bad_line, count_lines, first_line, number};
 use ats_impact::Top;
 use ats_terms::{Query, QueryFault};
 use std::alloc::Global;
@@ -18,34 +18,6 @@ pub(crate) struct Entry<'a> {
     pub(crate) top: Top,
     pub(crate) proof: &'a str,
     pub(crate) query: Query,
-}
-
-// The first line, and what follows its line feed.
-fn first_line(bytes: &[u8]) -> (&[u8], &[u8])
-    requires { bytes.now ≢ [] }
-    ensures lines { lines_of bytes.now ≡ result.0.now ∷ lines_of result.1.now }
-    ensures less { length result.1.now < length bytes.now }
-{
-    let mut at = 0;
-    'bytes: while at < bytes.len() && bytes[at] != b'\n' {
-        at += 1;
-    }
-    if at == bytes.len() {
-        return (bytes, &bytes[at..]);
-    }
-    (&bytes[..at], &bytes[at + 1..])
-}
-
-fn count_lines(bytes: &[u8]) -> usize
-    ensures { result ≡ length (lines_of bytes.now) }
-{
-    let mut rest = bytes;
-    let mut count = 0;
-    'lines: while !rest.is_empty() {
-        count += 1;
-        rest = first_line(rest).1;
-    }
-    count
 }
 
 // R, PROOF and QUERY of a line that spells them.
@@ -100,7 +72,7 @@ pub(crate) fn read_entries<'a>(alloc: Global, bytes: &'a [u8]) -> Result<Vec<Ent
     ensures ok { IfOk result (λ entries. AllZip IsEntry (lines_of bytes.now) entries.items) }
     ensures some { IfOk result (λ entries. 1 ≤ length entries.items) }
     ensures few { IfOk result (λ entries. length entries.items ≤ 1000) }
-    ensures stop { IfErr result (λ stop. (stop ≡ Memory) ⊎ IsListStop bytes.now stop) }
+    ensures stop { IfErr result (λ stop. (stop ≡ Memory) ⊎ IsListStop IsListed 1000 bytes.now stop) }
 {
     let count = count_lines(bytes);
     if count == 0 {

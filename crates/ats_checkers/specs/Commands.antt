@@ -7,6 +7,11 @@ use Rattle.ats_client.specs.Rows.{rows_of}
 use Rattle.ats_conjunction.specs.Bytes.{AreAcceptedBytes}
 use Rattle.ats_conjunction.specs.Documents.{documents_shown}
 use Rattle.ats_conjunction.specs.Headline.{AreBothOrCollide}
+use Rattle.ats_shards.specs.Catalog.{root_over}
+use Rattle.ats_catalog.specs.Accepts.{AreRowsOf}
+use Rattle.ats_catalog.specs.Bytes.{IsAcceptedCatalog}
+use Rattle.ats_catalog.specs.Headline.{IsCatalogTopOrCollides}
+use Rattle.ats_catalog.specs.declared.row.CatalogRow.{CatalogRow}
 use Rattle.ats_inclusion.specs.Bytes.{IsAcceptedText}
 use Rattle.ats_inclusion.specs.Strings.{IsOwnOrCollides}
 use Rattle.ats_consistency.specs.Bytes.{IsAcceptedGrowth}
@@ -17,10 +22,11 @@ use Rattle.ats_both.specs.Verdicts.{AreBothOrTold}
 use Rattle.ats_growth.specs.Verdicts.{IsGrownOrTold}
 use Rattle.ats_plan.specs.Files.{Files}
 use Rattle.ats_plan.specs.Plan.{Plan, Finishes}
-use Rattle.ats_console.specs.Kinds.{IsChecked, proof_kind, checks_named, text_kind, printed_text, both_kind, growth_kind, line_of_grown}
-use Rattle.ats_console.specs.Print.{lines, lines_of_documents}
+use Rattle.ats_console.specs.Kinds.{IsChecked, proof_kind, checks_named, text_kind, printed_text, both_kind, growth_kind, line_of_grown, catalog_kind}
+use Rattle.ats_console.specs.Print.{IsPublished, lines, lines_of_catalog, lines_of_documents}
+use Rattle.ats_console.specs.Roots.{HasRoots, reads_roots}
 use Rattle.ats_console.specs.Steps.{AsksRanking, asks_ranking, asks_query}
-use Rattle.ats_console.specs.Words.{CheckerCommand, VerifyWords, FetchWords, BothWords, GrowthWords}
+use Rattle.ats_console.specs.Words.{CheckerCommand, VerifyWords, FetchWords, BothWords, GrowthWords, CatalogRootWords, CatalogWords}
 use Rattle.ats_console.specs.declared.stops.Stop.{Stop}
 use Rattle.ats_console.specs.Words as command
 
@@ -97,6 +103,39 @@ growth_plan H words =
     checks_named (growth_kind H words.old words.new) words.file (λ growth.
     Finishes (λ files text. IsGrowthChecked H files words text))
 
+-- ---- `catalog-root ROOTS`
+
+-- the named file is a list of roots, and the root of the catalog whose shards have these roots was published
+pub record IsCatalogRooted (H : List ℕ → List ℕ) (files : Files) (words : CatalogRootWords) (text : List ℕ) : Type 0 where
+  pub roots : List (List ℕ)
+  pub listed : HasRoots files words.roots roots
+  pub published : IsPublished (root_over H roots) text
+
+abbrev pub catalog_root_plan : (List ℕ → List ℕ) → CatalogRootWords → Plan Stop
+catalog_root_plan H words =
+    reads_roots words.roots (λ roots. Finishes (λ files text. IsCatalogRooted H files words text))
+
+-- ---- `catalog ROOT R QUERY FILE`
+
+-- The named file is accepted under the root as the proof of a catalog's answer, and the text is the lines of its rows. For
+-- every catalog with the root, either these rows are right, or the file and the catalog contain two different strings with
+-- equal digests.
+pub record IsCatalogChecked (H : List ℕ → List ℕ) (files : Files) (words : CatalogWords) (text : List ℕ) : Type 0 where
+  pub asks : AsksRanking words.r words.query
+  pub query : List (List ℕ × ℕ)
+  pub asked : IsQueryOf words.query query
+  pub checked : IsChecked (2 ^ 28) (IsAcceptedCatalog H words.root query words.r) files words.file
+  pub headline : IsCatalogTopOrCollides H words.root query words.r checked.value
+  pub rows : List CatalogRow
+  pub answer : AreRowsOf query checked.value rows
+  pub printed : text ≡ lines_of_catalog rows
+
+abbrev pub catalog_plan : (List ℕ → List ℕ) → CatalogWords → Plan Stop
+catalog_plan H words =
+    asks_ranking words.r words.query (λ query.
+    checks_named (catalog_kind H words.root query words.r) words.file (λ shards.
+    Finishes (λ files text. IsCatalogChecked H files words text)))
+
 -- ---- all
 
 abbrev pub checker_plan : (List ℕ → List ℕ) → CheckerCommand → Plan Stop
@@ -104,3 +143,5 @@ checker_plan H (command.Verify words) = verify_plan H words
 checker_plan H (command.Fetch words) = fetch_plan H words
 checker_plan H (command.Both words) = both_plan H words
 checker_plan H (command.Growth words) = growth_plan H words
+checker_plan H (command.CatalogRoot words) = catalog_root_plan H words
+checker_plan H (command.Catalog words) = catalog_plan H words

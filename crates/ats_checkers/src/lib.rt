@@ -1,10 +1,11 @@
 //! The commands of a reader, who holds only roots: they check a file, and print what it shows.
 //!
 //! `verify` checks the proof of a query's best documents, `fetch` the text of a document, `both` the proof of all documents
-//! with every term of a query, and `growth` that nothing was withdrawn between two roots.
+//! with every term of a query, and `growth` that nothing was withdrawn between two roots. `catalog` checks the proof of the
+//! best documents of several archives, whose common root `catalog-root` prints.
 //!
 //! The room stands on `ats_plan` and `ats_console` for what a command is and reads, on `ats_client`, `ats_inclusion`,
-//! `ats_conjunction` and `ats_consistency` for the checks, and on `ats_audit`, `ats_fetch`, `ats_both` and `ats_growth` only
+//! `ats_conjunction`, `ats_consistency`, `ats_shards` and `ats_catalog` for the checks, and on `ats_audit`, `ats_fetch`, `ats_both` and `ats_growth` only
 //! for what audits return. [`answer`] comes to the text that the plan of a command allows (`specs/Commands`), or stops as
 //! its plan stops. An accepted file comes with what follows for every archive with the root, and with what each audit of it
 //! returns. `verify_to_lines` is for who checks bytes that came over a link. How a command makes its answer may change
@@ -24,6 +25,7 @@ ghost use Rattle.ats_console.specs.Words.{checker_meaning};
 ghost use Rattle.ats_console.specs.declared.stops.Stop.TheVariants.{Shelf as AtShelf, Memory};
 ghost use Rattle.ats_checkers.specs.Commands.{checker_plan};
 
+mod catalogs;
 mod documents;
 mod growths;
 mod texts;
@@ -32,6 +34,7 @@ mod verifying;
 use ats_base::Shelf;
 use ats_console::{CheckerCommand, Stop};
 use ats_hash::Hash32;
+use catalogs::{catalog, catalog_root};
 use documents::both;
 use growths::growth;
 use std::alloc::Global;
@@ -64,5 +67,12 @@ pub fn answer<H: Hash32, S: Shelf>(
             alloc, &root, query, proof, shelf,
         ),
         CheckerCommand::Growth { old, new, file } => growth::<H, S>(alloc, &old, &new, file, shelf),
+        CheckerCommand::CatalogRoot { roots } => catalog_root::<H, S>(alloc, roots, shelf),
+        CheckerCommand::Catalog {
+            root,
+            r,
+            query,
+            file,
+        } => catalog::<H, S>(alloc, &root, r, query, file, shelf),
     }
 }

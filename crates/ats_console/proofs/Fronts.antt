@@ -1,5 +1,5 @@
 -- The first steps of a command: how it stops at them, and that it goes on after them.
-use Rattle.std.proofs.Common.{◌≡◌, ◌⊎◌, ◌≢◌, ◌<◌, ◌≤◌, ◌∙◌, ℕ, List, [], Result, Ok, Err, IfErr, IsErrAnd, inl, inr, refl, sym, ap, subst, arith}
+use Rattle.std.proofs.Common.{◌≡◌, ◌⊎◌, ◌≢◌, ◌<◌, ◌≤◌, ◌^◌, ◌∙◌, ℕ, List, [], Result, Ok, Err, IfErr, IsErrAnd, inl, inr, refl, sym, ap, subst, arith}
 use Rattle.std.proofs.lemmas.Result.{err_from_is_err_and}
 use Rattle.ats_base.specs.Outside.{ShelfTold}
 use Rattle.ats_terms.specs.Query.{IsQueryOf}
@@ -10,9 +10,13 @@ use Rattle.ats_plan.specs.Files.{Files, IsFile}
 use Rattle.ats_plan.specs.Plan.{Plan, Fails, Tries, Gets, Reads}
 use Rattle.ats_plan.specs.Runs.{Does, Stops, IsDone, IsStopped}
 use Rattle.ats_plan.proofs.Public.{Leads, leads_try, leads_get, leads_read, at_memory, at_get, at_try}
+use Rattle.ats_index.specs.Spelling.{IsSpelling}
+use Rattle.ats_index.specs.LoadFaults.{IsLoadFault}
+use Rattle.ats_console.specs.Lists.{IsListOf, IsListStop}
 use Rattle.ats_console.specs.Read.{HasCollection, HasIndex}
+use Rattle.ats_console.specs.Roots.{SpellsRoot, HasRoots, reads_roots}
 use Rattle.ats_console.specs.Steps.{StopsBy, IsRowCount, AsksRanking, asks_query, asks_ranking, reads_collection, reads_index, no_more, comes_to}
-use Rattle.ats_console.specs.Stops.{line_of_rows, stop_of_query}
+use Rattle.ats_console.specs.Stops.{line_of_rows, line_of_limit, stop_of_query, stop_of_load}
 use Rattle.ats_console.specs.declared.stops.Stop.{Stop}
 use Rattle.ats_console.specs.declared.stops.Stop.TheVariants.{Usage, Shelf, Input, Rejected, Memory, Link, Peer, Faults, Collision}
 
@@ -88,17 +92,27 @@ module _ {plan : Plan Stop} {before mid next : ShelfTold} where
       → IsDone (reads_collection name (comes_to texts)) mid next [] → Leads Shelf Memory plan before (rest texts) next
   leads_collection {rest = rest} {texts = texts} leads done = after_collection rest texts leads done.so
 
-  after_index : {H : List ℕ → List ℕ} {name : List ℕ} (rest : Archive → Plan Stop) (archive : Archive)
-      → Leads Shelf Memory plan before (reads_index H name rest) mid
-      → Does (reads_index H name (comes_to archive)) mid next [] → Leads Shelf Memory plan before (rest archive) next
-  after_index rest archive leads (told, read, calm, inl (longer, never)) = absurd never
-  after_index rest archive leads (told, read, calm, inr (bytes, file, (found, spelling, (same, is)))) =
-      lands rest found archive (leads_get found (leads_read leads read calm file) spelling) same is
+  -- a file whose bytes are some value
+  after_value : {A : Type 0} (is : List ℕ → A → Type 0) (bad : List ℕ → Stop → Type 0) {name : List ℕ} {limit : ℕ} {fault : Stop}
+      (rest : A → Plan Stop) (value : A)
+      → Leads Shelf Memory plan before (Reads name limit (Fails fault) (λ bytes. Gets A (is bytes) (bad bytes) rest)) mid
+      → Does (Reads name limit (Fails fault) (λ bytes. Gets A (is bytes) (bad bytes) (comes_to value))) mid next []
+      → Leads Shelf Memory plan before (rest value) next
+  after_value is bad rest value leads (told, read, calm, inl (longer, never)) = absurd never
+  after_value is bad rest value leads (told, read, calm, inr (bytes, file, (found, spelled, (same, so)))) =
+      lands rest found value (leads_get found (leads_read leads read calm file) spelled) same so
 
   pub leads_index : {H : List ℕ → List ℕ} {name : List ℕ} {rest : Archive → Plan Stop} {archive : Archive}
       → Leads Shelf Memory plan before (reads_index H name rest) mid
       → IsDone (reads_index H name (comes_to archive)) mid next [] → Leads Shelf Memory plan before (rest archive) next
-  leads_index {rest = rest} {archive = archive} leads done = after_index rest archive leads done.so
+  leads_index {H = H} {rest = rest} {archive = archive} leads done =
+      after_value (IsSpelling H) (λ bytes. StopsBy (IsLoadFault H bytes) stop_of_load) rest archive leads done.so
+
+  pub leads_roots : {name : List ℕ} {rest : List (List ℕ) → Plan Stop} {roots : List (List ℕ)}
+      → Leads Shelf Memory plan before (reads_roots name rest) mid
+      → IsDone (reads_roots name (comes_to roots)) mid next [] → Leads Shelf Memory plan before (rest roots) next
+  leads_roots {rest = rest} {roots = roots} leads done =
+      after_value (IsListOf SpellsRoot 4096) (IsListStop SpellsRoot 4096) rest roots leads done.so
 
 -- ---- what such a step found, and that it left the files
 
@@ -118,11 +132,12 @@ module _ (before now : ShelfTold) where
     ap (λ (t : ShelfTold). t.files) same ∙ read.files,
   )
 
-  index_got : (H : List ℕ → List ℕ) (name : List ℕ) (archive : Archive) → Does (reads_index H name (comes_to archive)) before now []
-      → HasIndex H before.files name archive × (now.files ≡ before.files)
-  index_got H name archive (told, read, calm, inl (longer, never)) = absurd never
-  index_got H name archive (told, read, calm, inr (bytes, file, (found, spelling, (same, is)))) = (
-    subst (λ (a : Archive). HasIndex H before.files name a) is (record { bytes = bytes; file = file; spelling = spelling }),
+  value_got : {A : Type 0} (is : List ℕ → A → Type 0) (bad : List ℕ → Stop → Type 0) (name : List ℕ) (limit : ℕ) (fault : Stop) (value : A)
+      → Does (Reads name limit (Fails fault) (λ bytes. Gets A (is bytes) (bad bytes) (comes_to value))) before now []
+      → ((bytes : List ℕ) × IsFile before.files name limit bytes × is bytes value) × (now.files ≡ before.files)
+  value_got is bad name limit fault value (told, read, calm, inl (longer, never)) = absurd never
+  value_got is bad name limit fault value (told, read, calm, inr (bytes, file, (found, spelled, (same, so)))) = (
+    (bytes, file, subst (is bytes) so spelled),
     ap (λ (t : ShelfTold). t.files) same ∙ read.files,
   )
 
@@ -143,13 +158,18 @@ module _ {before now : ShelfTold} where
       → now.files ≡ before.files
   same_collection {name} {texts} done = (collection_got before now name texts done.so).1
 
+  index_got : {H : List ℕ → List ℕ} {name : List ℕ} {archive : Archive} → IsDone (reads_index H name (comes_to archive)) before now []
+      → ((bytes : List ℕ) × IsFile before.files name (2 ^ 29) bytes × IsSpelling H bytes archive) × (now.files ≡ before.files)
+  index_got {H} {name} {archive} done =
+      value_got before now (IsSpelling H) (λ bytes. StopsBy (IsLoadFault H bytes) stop_of_load) name (2 ^ 29) (Input (line_of_limit (2 ^ 29))) archive done.so
+
   pub has_index : {H : List ℕ → List ℕ} {name : List ℕ} {archive : Archive} → IsDone (reads_index H name (comes_to archive)) before now []
       → HasIndex H before.files name archive
-  has_index {H} {name} {archive} done = (index_got before now H name archive done.so).0
+  has_index done = let got = (index_got done).0 in record { bytes = got.0; file = got.1; spelling = got.2 }
 
   pub same_index : {H : List ℕ → List ℕ} {name : List ℕ} {archive : Archive} → IsDone (reads_index H name (comes_to archive)) before now []
       → now.files ≡ before.files
-  same_index {H} {name} {archive} done = (index_got before now H name archive done.so).1
+  same_index done = (index_got done).1
 
   -- what such a step found is still there, an index also after later steps that leave the files
   pub still_bytes : {name : List ℕ} {limit : ℕ} {fault : Stop} {bytes : List ℕ}
@@ -163,6 +183,11 @@ module _ {before now : ShelfTold} where
   pub still_index : {H : List ℕ → List ℕ} {files : Files} {name : List ℕ} {archive : Archive}
       → IsDone (reads_index H name (comes_to archive)) before now [] → files ≡ now.files → HasIndex H files name archive
   still_index {H = H} {name = name} {archive = archive} done same = subst (λ (f : Files). HasIndex H f name archive) (sym (same ∙ same_index done)) (has_index done)
+
+  pub still_roots : {name : List ℕ} {roots : List (List ℕ)} → IsDone (reads_roots name (comes_to roots)) before now [] → HasRoots now.files name roots
+  still_roots {name = name} {roots = roots} done =
+      let got = value_got before now (IsListOf SpellsRoot 4096) (IsListStop SpellsRoot 4096) name (2 ^ 20) (Input (line_of_limit (2 ^ 20))) roots done.so in
+      subst (λ (f : Files). HasRoots f name roots) (sym got.1) (record { bytes = got.0.0; file = got.0.1; list = got.0.2 })
 
 -- ---- such a step stopped
 
@@ -200,18 +225,25 @@ module _ {before now : ShelfTold} {stop : Stop} where
     ];
   }
 
+  at_value : {A : Type 0} (is : List ℕ → A → Type 0) (bad : List ℕ → Stop → Type 0) {name : List ℕ} {limit : ℕ} {fault : Stop} (rest : A → Plan Stop)
+      → Stops Shelf Memory (Reads name limit (Fails fault) (λ bytes. Gets A (is bytes) (bad bytes) (λ value. no_more))) before now stop
+      → Stops Shelf Memory (Reads name limit (Fails fault) (λ bytes. Gets A (is bytes) (bad bytes) rest)) before now stop
+  at_value is bad rest stopped = elim stopped [
+    | inl here ↦ inl here
+    | inr (inl unread) ↦ inr (inl unread)
+    | inr (inr (told, read, calm, inl long)) ↦ inr (inr (told, read, calm, inl long))
+    | inr (inr (told, read, calm, inr (bytes, file, inl none))) ↦ inr (inr (told, read, calm, inr (bytes, file, inl none)))
+    | inr (inr (told, read, calm, inr (bytes, file, inr (value, spelled, (same, memory))))) ↦
+        inr (inr (told, read, calm, inr (bytes, file, inr (value, spelled, ran_out (rest value) same memory))))
+  ]
+
   pub at_index : {H : List ℕ → List ℕ} {name : List ℕ} {rest : Archive → Plan Stop} → IsStopped Shelf Memory (reads_index H name (λ archive. no_more)) before now stop
       → IsStopped Shelf Memory (reads_index H name rest) before now stop
-  at_index {rest = rest} is = record {
-    so = elim is.so [
-      | inl here ↦ inl here
-      | inr (inl unread) ↦ inr (inl unread)
-      | inr (inr (told, read, calm, inl long)) ↦ inr (inr (told, read, calm, inl long))
-      | inr (inr (told, read, calm, inr (bytes, file, inl bad))) ↦ inr (inr (told, read, calm, inr (bytes, file, inl bad)))
-      | inr (inr (told, read, calm, inr (bytes, file, inr (archive, spelling, (same, is))))) ↦
-          inr (inr (told, read, calm, inr (bytes, file, inr (archive, spelling, ran_out (rest archive) same is))))
-    ];
-  }
+  at_index {H = H} {rest = rest} is = record { so = at_value (IsSpelling H) (λ bytes. StopsBy (IsLoadFault H bytes) stop_of_load) rest is.so }
+
+  pub at_roots : {name : List ℕ} {rest : List (List ℕ) → Plan Stop} → IsStopped Shelf Memory (reads_roots name (λ roots. no_more)) before now stop
+      → IsStopped Shelf Memory (reads_roots name rest) before now stop
+  at_roots {rest = rest} is = record { so = at_value (IsListOf SpellsRoot 4096) (IsListStop SpellsRoot 4096) rest is.so }
 
 -- ---- a step after some others stopped
 

@@ -4,6 +4,9 @@ mod OneFault
 mod Fronts
 mod RootWords
 mod OneFile
+mod ListLines
+mod ListReading
+mod OneList
 mod OneProof
 mod Sound
 mod OneKind

@@ -22,10 +22,17 @@ use Rattle.ats_consistency.proofs.Public.{one_growth}
 use Rattle.ats_consistency.proofs.Public as growths
 use Rattle.ats_conjunction.specs.Bytes.{AreAcceptedBytes, AreRefusedBytes}
 use Rattle.ats_conjunction.proofs.Public.{one_of_bytes, not_refused}
-use Rattle.ats_refusal.specs.Words.{text_refusal_words, both_refusal_words, growth_refusal_words}
+use Rattle.ats_shards.specs.Grammar.{catalog_schema}
+use Rattle.ats_shards.specs.Value.{Framed, IsCatalogProof}
+use Rattle.ats_shards.specs.Value as shards
+use Rattle.ats_shards.proofs.Public.{one_catalog}
+use Rattle.ats_catalog.specs.Accepts.{AcceptsCatalog, IsFirstCatalogRefusal}
+use Rattle.ats_catalog.specs.Bytes.{IsAcceptedCatalog, IsRefusedCatalog}
+use Rattle.ats_catalog.proofs.Public as catalogs
+use Rattle.ats_refusal.specs.Words.{text_refusal_words, both_refusal_words, growth_refusal_words, catalog_refusal_words}
 use Rattle.ats_plan.specs.Plan.{Plan}
 use Rattle.ats_plan.specs.Inner.Sound.{IsOne}
-use Rattle.ats_console.specs.Kinds.{Kind, text_kind, both_kind, growth_kind, checks_named}
+use Rattle.ats_console.specs.Kinds.{Kind, text_kind, both_kind, growth_kind, catalog_kind, checks_named}
 use Rattle.ats_console.specs.declared.stops.Stop.{Stop}
 use Rattle.ats_console.specs.declared.stops.Stop.TheVariants.{Usage}
 use Rattle.ats_console.proofs.OneFile.{IsFileOne, file_one, not_usage}
@@ -93,3 +100,13 @@ module _ (H : List ℕ → List ℕ) where
 
   pub both_one : (root : List ℕ) (query : List (List ℕ × ℕ)) → IsKindOne (both_kind H root query)
   both_one root query = record { one = λ bytes. file_one both_refusal_words (both_file_one root query bytes); free = λ bytes. not_usage both_refusal_words }
+
+  catalog_file_one : (root : List ℕ) (query : List (List ℕ × ℕ)) (r : ℕ) (bytes : List ℕ)
+      → IsFileOne (IsAcceptedCatalog H root query r bytes) (IsBad catalog_schema bytes) (IsRefusedCatalog H root query r bytes)
+  catalog_file_one root query r bytes =
+      file_of_rules (IsCatalogProof bytes) (AcceptsCatalog H root query r) (IsFirstCatalogRefusal H root query r) (λ v is. (is.says, is.accepts)) (λ f is. (is.shards, is.says, is.refused))
+      (one_catalog bytes) (λ v fault says wrong. no_fault catalog_schema bytes fault (shards.fields_of v) wrong says.spells) (one_fault catalog_schema bytes)
+      (catalogs.not_refused H root query r) (catalogs.one_refusal H root query r)
+
+  pub catalog_one : (root : List ℕ) (query : List (List ℕ × ℕ)) (r : ℕ) → IsKindOne (catalog_kind H root query r)
+  catalog_one root query r = record { one = λ bytes. file_one catalog_refusal_words (catalog_file_one root query r bytes); free = λ bytes. not_usage catalog_refusal_words }

@@ -8,18 +8,18 @@ pub use Rattle.ats_console.proofs.Fronts.{stops_by}
 pub use Rattle.ats_console.proofs.Fronts.{leads_query}
 -- a number of rows in range and a query lead past the first two steps of a ranking
 pub use Rattle.ats_console.proofs.Fronts.{leads_ranking}
--- a file, a collection or an index that was read leads past its step
-pub use Rattle.ats_console.proofs.Fronts.{leads_bytes, leads_collection, leads_index}
+-- a file, a collection, an index or a list of roots that was read leads past its step
+pub use Rattle.ats_console.proofs.Fronts.{leads_bytes, leads_collection, leads_index, leads_roots}
 -- what such a step found
 pub use Rattle.ats_console.proofs.Fronts.{has_index}
 -- it is still there, an index also after later steps that leave the files
-pub use Rattle.ats_console.proofs.Fronts.{still_bytes, still_collection, still_index}
+pub use Rattle.ats_console.proofs.Fronts.{still_bytes, still_collection, still_index, still_roots}
 -- such a step left the files
 pub use Rattle.ats_console.proofs.Fronts.{same_bytes, same_index}
 -- memory may run out after some steps, whatever comes after them
 pub use Rattle.ats_console.proofs.Fronts.{ran_out, memory_stops}
 -- if such a step stopped, what it is the first step of stopped there
-pub use Rattle.ats_console.proofs.Fronts.{at_bytes, at_collection, at_index}
+pub use Rattle.ats_console.proofs.Fronts.{at_bytes, at_collection, at_index, at_roots}
 -- a stop that is passed on keeps its cause at the exit of a `?`
 pub use Rattle.ats_console.proofs.Fronts.{passed}
 -- a step that finds no value, or does not hold, stops what comes to it
@@ -41,7 +41,7 @@ pub use Rattle.ats_console.proofs.Sound.{Sound, ends, stores, fails, tries, gets
 -- these stops are not for words
 pub use Rattle.ats_console.proofs.Sound.{not_shelf, not_memory, not_input, not_rejected, not_collision}
 -- a step that commands share keeps that
-pub use Rattle.ats_console.proofs.Sound.{query_sound, ranking_sound, collection_sound, index_sound, checks_sound}
+pub use Rattle.ats_console.proofs.Sound.{query_sound, ranking_sound, collection_sound, index_sound, roots_sound, checks_sound}
 -- bytes that spell a proof are its fields
 pub use Rattle.ats_console.proofs.OneProof.{spelled_fields}
 -- an honest proof within a limit is not too long, and one that is has one length
@@ -49,8 +49,12 @@ pub use Rattle.ats_console.proofs.OneProof.{honest_short, one_length}
 -- the honest proof that is made is one, and it is made or too long in one way
 pub use Rattle.ats_console.proofs.OneProof.{one_made, made_short, length_exact}
 -- a file of each kind is accepted or rejected in one way, and its check keeps that a plan goes one way
-pub use Rattle.ats_console.proofs.OneKind.{IsKindOne, text_one, both_one, growth_one, named_sound}
+pub use Rattle.ats_console.proofs.OneKind.{IsKindOne, text_one, both_one, growth_one, catalog_one, named_sound}
 -- bytes that were accepted end a command
 pub use Rattle.ats_console.proofs.KindEnds.{check_end}
 -- the texts of an index are UTF-8 and within the limits
 pub use Rattle.ats_console.proofs.KindEnds.{texts_of}
+-- a list that is read line by line, its next line, and its end
+pub use Rattle.ats_console.proofs.ListReading.{AreRead, read_more, all_read, as_many_read, next_bad}
+-- bytes are one list if each line has one reading, as any two lists are that go along a third in one way
+pub use Rattle.ats_console.proofs.OneList.{list_one, same_zip}

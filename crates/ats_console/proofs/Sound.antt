@@ -1,5 +1,5 @@
 -- The steps that commands share go one way at most, and stop none for its words.
-use Rattle.std.proofs.Common.{◌≡◌, ◌≢◌, ◌∙◌, ℕ, List, sym, ap}
+use Rattle.std.proofs.Common.{◌≡◌, ◌≢◌, ◌∙◌, ℕ, List, Some, sym, ap}
 use Rattle.ats_terms.specs.declared.query.QueryFault.{QueryFault}
 use Rattle.ats_terms.specs.declared.query.QueryFault.TheVariants as query
 use Rattle.ats_impact.specs.declared.collection.CollectionFault.{CollectionFault}
@@ -27,11 +27,13 @@ use Rattle.ats_plan.specs.Inner.Avoids.{Avoids}
 use Rattle.ats_plan.specs.Inner.Sound.{IsExact, IsOne, IsSound}
 use Rattle.ats_console.specs.Input.{AreJsonTexts, IsFirstJsonFault}
 use Rattle.ats_console.specs.RejectionLines.{line_of_rejection}
+use Rattle.ats_console.specs.Roots.{SpellsRoot, reads_roots}
 use Rattle.ats_console.specs.Stops.{line_of_rows, stop_of_query, stop_of_json, stop_of_collection, stop_of_load}
 use Rattle.ats_console.specs.Steps.{StopsBy, IsRowCount, asks_query, asks_ranking, reads_collection, reads_index, RejectsBytes}
 use Rattle.ats_console.specs.Inner.Steps.{checks}
 use Rattle.ats_console.specs.declared.stops.Stop.{Stop}
 use Rattle.ats_console.specs.declared.stops.Stop.TheVariants.{Usage, Shelf, Input, Rejected, Memory, Collision}
+use Rattle.ats_console.proofs.OneList.{list_one}
 use Rattle.ats_console.proofs.JsonLemmas.{same_texts, no_json_fault}
 use Rattle.ats_console.proofs.OneFault.{no_query_fault, one_query_fault, one_json_fault, no_collection_fault, one_collection_fault, no_load_fault, one_load_fault}
 
@@ -156,6 +158,10 @@ archive_one H bytes = record {
   one = one_by (IsLoadFault H bytes) stop_of_load (one_load_fault H bytes);
 }
 
+-- a line spells one root
+one_root : (line a b : List ℕ) → SpellsRoot line a → SpellsRoot line b → a ≡ b
+one_root line a b is also = let same : Some a ≡ Some b = sym is ∙ also in cc
+
 -- bytes are accepted as one proof
 pub one_accepted : (H : List ℕ → List ℕ) (root : List ℕ) (query : List (List ℕ × ℕ)) (r : ℕ) (bytes : List ℕ) (a b : Proof)
     → IsAcceptedBytes H root query r bytes a → IsAcceptedBytes H root query r bytes b → a ≡ b
@@ -188,6 +194,9 @@ collection_sound later = reads (fails not_input) (λ bytes. gets (texts_one byte
 pub index_sound : {H : List ℕ → List ℕ} {name : List ℕ} {rest : Archive → Plan Stop} → ((archive : Archive) → Sound (rest archive))
     → Sound (reads_index H name rest)
 index_sound {H = H} later = reads (fails not_input) (λ bytes. gets (archive_one H bytes) (λ stops. not_load stops.0 stops.2) later)
+
+pub roots_sound : {name : List ℕ} {rest : List (List ℕ) → Plan Stop} → ((roots : List (List ℕ)) → Sound (rest roots)) → Sound (reads_roots name rest)
+roots_sound later = reads (fails not_input) (λ bytes. gets (list_one SpellsRoot 4096 one_root bytes) (λ stops. not_input stops.2) later)
 
 pub checks_sound : {H : List ℕ → List ℕ} {root : List ℕ} {query : List (List ℕ × ℕ)} {r : ℕ} {bytes : List ℕ} {rest : Proof → Plan Stop}
     → ((proof : Proof) → Sound (rest proof)) → Sound (checks H root query r bytes rest)

@@ -12,7 +12,10 @@ use Rattle.ats_inclusion.specs.Bytes.{IsAcceptedText, IsRefusedText}
 use Rattle.ats_consistency.specs.Grammar.{growth_schema}
 use Rattle.ats_consistency.specs.Value.{Growth}
 use Rattle.ats_consistency.specs.Bytes.{IsAcceptedGrowth, IsRefusedGrowth}
-use Rattle.ats_refusal.specs.Words.{text_refusal_words, both_refusal_words, growth_refusal_words}
+use Rattle.ats_shards.specs.Grammar.{catalog_schema}
+use Rattle.ats_shards.specs.Value.{Framed}
+use Rattle.ats_catalog.specs.Bytes.{IsAcceptedCatalog, IsRefusedCatalog}
+use Rattle.ats_refusal.specs.Words.{text_refusal_words, both_refusal_words, growth_refusal_words, catalog_refusal_words}
 use Rattle.ats_plan.specs.Files.{Files, IsFile}
 use Rattle.ats_plan.specs.Plan.{Plan, Gets}
 use Rattle.ats_console.specs.Steps.{RejectsBytes, RejectsFile, reads_shaped}
@@ -56,6 +59,14 @@ growth_kind H old new = record {
   limit = 4096;
   accepted = IsAcceptedGrowth H old new;
   rejects = λ bytes. RejectsFile (IsBad growth_schema bytes) (IsRefusedGrowth H old new bytes) growth_refusal_words;
+}
+
+-- the proof of a catalog's answer to a query
+abbrev pub catalog_kind : (List ℕ → List ℕ) → (root : List ℕ) → List (List ℕ × ℕ) → (r : ℕ) → Kind (List Framed)
+catalog_kind H root query r = record {
+  limit = 2 ^ 28;
+  accepted = IsAcceptedCatalog H root query r;
+  rejects = λ bytes. RejectsFile (IsBad catalog_schema bytes) (IsRefusedCatalog H root query r bytes) catalog_refusal_words;
 }
 
 -- the named file is read, and what its bytes say is accepted

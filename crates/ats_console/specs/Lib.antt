@@ -4,8 +4,10 @@ pub mod Print
 pub mod RejectionLines
 pub mod CollisionLines
 pub mod Stops
+pub mod Lists
 pub mod Read
 pub mod Steps
 pub mod Making
+pub mod Roots
 pub mod Kinds
 pub mod Inner

@@ -2,6 +2,7 @@
 use Rattle.std.specs.Prelude.{◌≡◌, ◌+◌, ◌++◌, ◌∷◌, [], ℕ, List, Some, decimal, codes}
 use Rattle.hex.specs.Hex.{encode_lower}
 use Rattle.ats_impact.specs.declared.rank.Row.{Row}
+use Rattle.ats_catalog.specs.declared.row.CatalogRow.{CatalogRow}
 use Rattle.ats_console.specs.Words.{root_word}
 
 -- RANK DOC LOWER UPPER
@@ -17,6 +18,20 @@ lines_from rank (row ∷ rows) = line_of rank row ++ lines_from (rank + 1) rows
 
 abbrev pub lines : List Row → List ℕ
 lines rows = lines_from 1 rows
+
+-- RANK SHARD DOC LOWER UPPER
+abbrev pub line_of_catalog : ℕ → CatalogRow → List ℕ
+line_of_catalog rank row =
+    decimal rank ++ (codes " " ++ (decimal row.shard ++ (codes " " ++ (decimal row.doc
+    ++ (codes " " ++ (decimal row.lower ++ (codes " " ++ (decimal row.upper ++ codes "\n"))))))))
+
+-- a line for each row of a catalog's answer, ranks from this one on
+abbrev pub lines_of_catalog_from : ℕ → List CatalogRow → List ℕ
+lines_of_catalog_from rank [] = []
+lines_of_catalog_from rank (row ∷ rows) = line_of_catalog rank row ++ lines_of_catalog_from (rank + 1) rows
+
+abbrev pub lines_of_catalog : List CatalogRow → List ℕ
+lines_of_catalog rows = lines_of_catalog_from 1 rows
 
 -- DOC
 abbrev pub line_of_document : ℕ → List ℕ

@@ -153,6 +153,17 @@ pub record GrowthWords : Type 0 where
   pub new : List ℕ
   pub file : List ℕ
 
+-- the words of `catalog-root ROOTS`
+pub record CatalogRootWords : Type 0 where
+  pub roots : List ℕ
+
+-- the words of `catalog ROOT R QUERY FILE`
+pub record CatalogWords : Type 0 where
+  pub root : List ℕ
+  pub r : ℕ
+  pub query : List ℕ
+  pub file : List ℕ
+
 -- the words of `audit-growth OLDINDEX NEWINDEX FILE`
 pub record AuditGrowthWords : Type 0 where
   pub old : List ℕ
@@ -176,6 +187,8 @@ pub data CheckerCommand : Type 0 where
   Fetch : FetchWords → CheckerCommand
   Both : BothWords → CheckerCommand
   Growth : GrowthWords → CheckerCommand
+  CatalogRoot : CatalogRootWords → CheckerCommand
+  Catalog : CatalogWords → CheckerCommand
 
 -- a command of who has the archive, and wants to know whether what was accepted is right
 pub data AuditorCommand : Type 0 where
@@ -214,6 +227,9 @@ checker_meaning (checker.Verify root r query proof) =
 checker_meaning (checker.Fetch root doc file) = Fetch (record { root = root; doc = doc; file = file.now })
 checker_meaning (checker.Both root query proof) = Both (record { root = root; query = query.now; proof = proof.now })
 checker_meaning (checker.Growth old new file) = Growth (record { old = old; new = new; file = file.now })
+checker_meaning (checker.CatalogRoot roots) = CatalogRoot (record { roots = roots.now })
+checker_meaning (checker.Catalog root r query file) =
+    Catalog (record { root = root; r = r; query = query.now; file = file.now })
 
 abbrev pub auditor_meaning : AuditorValue → AuditorCommand
 auditor_meaning (auditor.Audit index r query proof) =
@@ -243,6 +259,7 @@ abbrev pub command_of_one : (word first : List ℕ) → Option Command
 command_of_one word first =
     if bytes_eq word (codes "root") then Some (Maker (Root (record { index = first })))
     else if bytes_eq word (codes "trial") then option_map (λ n. Auditor (Trial (record { number = n }))) (number_of first)
+    else if bytes_eq word (codes "catalog-root") then Some (Checker (CatalogRoot (record { roots = first })))
     else None
 
 abbrev pub command_of_two : (word first second : List ℕ) → Option Command
@@ -286,6 +303,9 @@ command_of_four word first second third fourth =
     (number_of second)) (root_word first)
     else if bytes_eq word (codes "audit")
     then option_map (λ n. Auditor (Audit (record { index = first; r = n; query = third; proof = fourth }))) (number_of second)
+    else if bytes_eq word (codes "catalog")
+    then option_and_then (λ digest. option_map (λ n. Checker (Catalog (record { root = digest; r = n; query = third; file = fourth })))
+    (number_of second)) (root_word first)
     else None
 
 abbrev pub command_of_five : (word first second third fourth fifth : List ℕ) → Option Command
@@ -310,7 +330,7 @@ command_of (word ∷ (first ∷ (second ∷ (third ∷ (fourth ∷ (fifth ∷ []
     command_of_five word first second third fourth fifth
 command_of _ = None
 
--- what is printed for words of no command: the first word of each
+-- what is printed for words of no command: the first word of each command of one archive
 abbrev pub usage_line : List ℕ
 usage_line = codes "usage: rank build root prove verify ask serve audit sweep trial migrate give fetch audit-fetch prove-both both audit-both grow growth audit-growth\n"
 
@@ -341,3 +361,7 @@ both_words root query name = codes "both" ∷ root ∷ query ∷ name ∷ []
 -- the words that check the growth from one root to another
 abbrev pub growth_words : List ℕ → List ℕ → List ℕ → List (List ℕ)
 growth_words old new file = codes "growth" ∷ old ∷ new ∷ file ∷ []
+
+-- the words that check the proof of a catalog's answer
+abbrev pub catalog_words : List ℕ → List ℕ → List ℕ → List ℕ → List (List ℕ)
+catalog_words root r query file = codes "catalog" ∷ root ∷ r ∷ query ∷ file ∷ []

@@ -17,6 +17,9 @@ pub const TEXT_FILE_LIMIT: u64 = 1 << 21;
 /// The most bytes of a file that shows a growth.
 pub const GROWTH_FILE_LIMIT: u64 = 4_096;
 
+/// The most bytes of a file that has the proof of a catalog's answer.
+pub const CATALOG_FILE_LIMIT: u64 = 1 << 28;
+
 /// The stop of what is refused, for the reason that a phrase gives.
 pub fn refused(reason: Phrase) -> Stop
     ensures { result ≡ Rejected (refused_line reason) }

@@ -19,6 +19,7 @@
 mod collision;
 mod input;
 mod kinds;
+mod lists;
 mod phrase_line;
 mod print;
 pub mod read;
@@ -29,9 +30,12 @@ mod words;
 
 pub use collision::{collision_lines, pair_lines, strings_lines};
 pub use input::{JsonFault, read_collection};
-pub use kinds::{GROWTH_FILE_LIMIT, TEXT_FILE_LIMIT, grown_line, print_text, refused};
+pub use kinds::{
+    CATALOG_FILE_LIMIT, GROWTH_FILE_LIMIT, TEXT_FILE_LIMIT, grown_line, print_text, refused,
+};
+pub use lists::{count_lines, first_line};
 pub use phrase_line::PhraseLine;
-pub use print::{document_lines, lines, root_line};
+pub use print::{catalog_lines, document_lines, lines, root_line};
 pub use rejection::rejection_line;
 pub use stop_lines::Line;
 pub use stops::{

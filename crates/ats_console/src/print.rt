@@ -3,9 +3,10 @@
 ghost use Rattle.std.specs.Prelude.{◌≡◌, string_bytes, IfOk, Some};
 ghost use Rattle.hex.specs.Hex.{encode_lower};
 ghost use Rattle.ats_console.specs.Words.{root_word};
-ghost use Rattle.ats_console.specs.Print.{line_of, lines, line_of_document, lines_of_documents, line_of_root};
+ghost use Rattle.ats_console.specs.Print.{line_of, lines, line_of_catalog, lines_of_catalog, line_of_document, lines_of_documents, line_of_root};
 
 use ats_bound::Picks;
+use ats_catalog::{CatalogRow, CatalogRows};
 use ats_impact::{Row, Rows};
 use std::alloc::{AllocError, Global};
 
@@ -24,6 +25,25 @@ pub fn lines(alloc: Global, rows: &Rows) -> Result<Vec<u8>, AllocError>
     let rows = rows.as_slice();
     for i in 0..rows.len() {
         let line = line(alloc, i as u64 + 1, &rows[i])?;
+        text.extend_from_slice(line.as_bytes())?;
+    }
+    Ok(text)
+}
+
+fn catalog_line(alloc: Global, rank: u64, row: CatalogRow) -> Result<String, AllocError>
+    ensures { IfOk result (λ text. string_bytes text ≡ line_of_catalog rank row) }
+{
+    let (shard, doc, lower, upper) = (row.shard, row.doc, row.lower, row.upper);
+    format!(in alloc; "{rank} {shard} {doc} {lower} {upper}\n")
+}
+
+/// A line for each row of a catalog's answer, in order.
+pub fn catalog_lines(alloc: Global, rows: &CatalogRows) -> Result<Vec<u8>, AllocError>
+    ensures { IfOk result (λ text. text.items ≡ lines_of_catalog rows.now.rows) }
+{
+    let mut text = Vec::new(alloc);
+    for i in 0..rows.len() {
+        let line = catalog_line(alloc, i as u64 + 1, rows.get(i))?;
         text.extend_from_slice(line.as_bytes())?;
     }
     Ok(text)

@@ -2,10 +2,12 @@
 
 ghost use Rattle.std.specs.Prelude.{◌≤◌, ◌^◌, [], IfOk, IfErr};
 ghost use Rattle.ats_plan.specs.Runs.{IsDone, IsStopped};
+ghost use Rattle.ats_console.specs.Roots.{reads_roots};
 ghost use Rattle.ats_console.specs.Steps.{reads_file, reads_collection, reads_index, reads_shaped, reads_proof, no_more, comes_to};
 ghost use Rattle.ats_console.specs.declared.stops.Stop.TheVariants.{Shelf as AtShelf, Memory};
 
 use crate::input::read_collection;
+use crate::lists::read_roots;
 use crate::stops::{Stop, file_too_long, rejected};
 use ats_base::{Bytes, GatherFault, Shelf, gather};
 use ats_grammar::MAX_PROOF;
@@ -20,7 +22,7 @@ use std::thread::Threads;
 // The most bytes that the file of a collection may have.
 const COLLECTION_LIMIT: u64 = 1 << 26;
 
-/// The most bytes that the list of a sweep may have.
+/// The most bytes that a list may have.
 pub const LIST_LIMIT: u64 = 1 << 20;
 
 // The most bytes that the file of an index may have.
@@ -74,6 +76,17 @@ pub fn index<H: Hash32 + Sync, R: Threads + Sync, S: Shelf>(
 {
     let bytes = file(alloc, name, INDEX_LIMIT, shelf)?;
     Ok(Index::<H>::load(rt, alloc, bytes.as_slice())?)
+}
+
+/// The roots that the named file lists, one a line.
+pub fn roots<S: Shelf>(alloc: Global, name: &str, shelf: &mut S) -> Result<Vec<[u8; 32]>, Stop>
+    ensures ok { IfOk result (λ roots. IsDone (reads_roots name.now (comes_to roots.items))
+        (S.told shelf.old) (S.told shelf.new) []) }
+    ensures stop { IfErr result (IsStopped AtShelf Memory (reads_roots name.now (λ roots. no_more))
+        (S.told shelf.old) (S.told shelf.new)) }
+{
+    let bytes = file(alloc, name, LIST_LIMIT, shelf)?;
+    read_roots(alloc, bytes.as_slice())
 }
 
 /// The bytes of a file that is checked for its shape. More than `limit` bytes are refused as too long for it.

@@ -61,14 +61,20 @@ fn has_upper_case(word: &[u8]) -> bool
     word.iter().any(|letter| letter.is_ascii_uppercase())
 }
 
-// The root that 64 lower-case hexadecimal digits spell.
-fn root_word(word: &str) -> Option<[u8; 32]>
+/// The root that 64 lower-case hexadecimal digits spell.
+pub(crate) fn root_digits(word: &[u8]) -> Option<[u8; 32]>
     ensures { result ≡ root_word word.now }
 {
-    if has_upper_case(word.as_bytes()) {
+    if has_upper_case(word) {
         return None;
     }
     <[u8; 32] as FromHex>::from_hex(word).ok()
+}
+
+fn root_word(word: &str) -> Option<[u8; 32]>
+    ensures { result ≡ root_word word.now }
+{
+    root_digits(word.as_bytes())
 }
 
 /// A command of who has the texts: it ranks them, indexes them, or makes what others check.
@@ -150,6 +156,17 @@ pub enum CheckerCommand<'a> {
         new: [u8; 32],
         file: &'a str,
     },
+    /// `catalog-root ROOTS`
+    CatalogRoot {
+        roots: &'a str,
+    },
+    /// `catalog ROOT R QUERY FILE`
+    Catalog {
+        root: [u8; 32],
+        r: u32,
+        query: &'a str,
+        file: &'a str,
+    },
 }
 
 /// A command of who has the archive, and wants to know whether what was accepted is right.
@@ -213,7 +230,7 @@ pub enum Command<'a> {
     },
 }
 
-/// What is printed for words of no command: the first word of each, and a line feed.
+/// What is printed for words of no command: the first word of each command of one archive, and a line feed.
 pub const USAGE: &str =
     "usage: rank build root prove verify ask serve audit sweep trial migrate give fetch audit-fetch prove-both both audit-both grow growth audit-growth\n";
 
@@ -226,6 +243,7 @@ fn read_one<'a>(word: &str, first: &'a str) -> Option<Command<'a>>
         "trial" => Some(Command::Auditor(AuditorCommand::Trial {
             number: number(first)?,
         })),
+        "catalog-root" => Some(Command::Checker(CheckerCommand::CatalogRoot { roots: first })),
         _ => None,
     }
 }
@@ -342,6 +360,12 @@ fn read_four<'a>(
             r: number(second)?,
             query: third,
             proof: fourth,
+        })),
+        "catalog" => Some(Command::Checker(CheckerCommand::Catalog {
+            root: root_word(first)?,
+            r: number(second)?,
+            query: third,
+            file: fourth,
         })),
         _ => None,
     }

@@ -23,7 +23,7 @@ use Rattle.ats_top.specs.Inner.Stops.{AskStop}
 use Rattle.ats_console.specs.Steps.{IsRowCount, AsksRanking, RejectsBytes}
 use Rattle.ats_console.specs.Stops.{line_of_rows, stop_of_query}
 use Rattle.ats_console.specs.declared.stops.Stop.{Stop}
-use Rattle.ats_console.specs.declared.stops.Stop.TheVariants.{Usage, Shelf, Input, Rejected, Memory, Link, Peer, Faults, Collision}
+use Rattle.ats_console.specs.declared.stops.Stop.TheVariants.{Input, Rejected, Memory, Link, Peer}
 use Rattle.ats_console.proofs.Public.{stops_by}
 
 module _ (address : List ℕ) (question : Question) (before now : CallerTold) where

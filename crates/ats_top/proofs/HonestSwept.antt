@@ -22,7 +22,8 @@ use Rattle.ats_plan.specs.Plan.{Plan, Passes}
 use Rattle.ats_plan.proofs.Public.{one_file, file_short}
 use Rattle.ats_console.specs.Words.{SweepWords, Sweep, Auditor}
 use Rattle.ats_console.specs.Read.{HasIndex}
-use Rattle.ats_auditors.specs.Listed.{Listed, lines_of, IsListed, IsListOf, IsList, names_of}
+use Rattle.ats_console.specs.Lists.{lines_of, IsListOf}
+use Rattle.ats_auditors.specs.Listed.{Listed, IsListed, IsList, names_of}
 use Rattle.ats_auditors.specs.Gathered.{IsGathered, AreGathered, AreAllThere, size, total}
 use Rattle.ats_auditors.specs.Findings.{Finding, FoundRight, IsFinding, AreFindings, IsHonestLine, is_refused, is_collision}
 use Rattle.ats_console.specs.Steps.{reads_file}
@@ -175,7 +176,7 @@ module _ (H : List ℕ → List ℕ) (sized : (m : List ℕ) → length (H m) �
         (subst (λ (all : List Finding). list_any is_refused all ≡ false) same right.refused, tt),
       )
 
-  passes_right : (words : SweepWords) (bytes : List ℕ) (listed : List Listed) (proofs : List Gathered) → IsListOf bytes listed
+  passes_right : (words : SweepWords) (bytes : List ℕ) (listed : List Listed) (proofs : List Gathered) → IsListOf IsListed 1000 bytes listed
       → AreGathered files (names_of listed) proofs → AreRightOf listed proofs → Passes files (sweeps H words archive bytes)
   passes_right words bytes listed proofs list gathered right = (
     listed,

@@ -9,7 +9,7 @@ use Rattle.ats_top.specs.Answering.{gives}
 use Rattle.ats_top.specs.Served.{AreAllServed, ServingStop}
 use Rattle.ats_top.specs.Run.{HasRisen, DoorFailed}
 use Rattle.ats_console.specs.declared.stops.Stop.{Stop}
-use Rattle.ats_console.specs.declared.stops.Stop.TheVariants.{Usage, Shelf, Input, Rejected, Memory, Link, Peer, Faults, Collision}
+use Rattle.ats_console.specs.declared.stops.Stop.TheVariants.{Memory, Link, Faults}
 use Rattle.ats_top.proofs.Opened.{faults_rise}
 
 module _ (H : List ℕ → List ℕ) (files : Files) (words : ServeWords) (before now : DoorTold) (text : List ℕ) where

@@ -2,10 +2,10 @@
 use Rattle.std.proofs.Common.{◌≡◌, ℕ, List, Some, refl}
 use Rattle.ats_plan.specs.Files.{Files}
 use Rattle.ats_plan.proofs.Public.{EndsIn, does_end}
-use Rattle.ats_console.specs.Words.{AskWords, Ask, Both, BothWords, Command, Fetch, FetchWords, Growth, GrowthWords, Verify, VerifyWords, command_of, Checker}
+use Rattle.ats_console.specs.Words.{AskWords, Ask, Both, BothWords, Command, Fetch, FetchWords, Growth, GrowthWords, Verify, VerifyWords, Catalog, CatalogWords, command_of, Checker}
 use Rattle.ats_top.specs.Asked.{IsReplyVerified}
 use Rattle.ats_top.specs.Commands.{plan_of}
-use Rattle.ats_checkers.specs.Commands.{IsBothChecked, IsFetched, IsGrowthChecked, IsVerified}
+use Rattle.ats_checkers.specs.Commands.{IsBothChecked, IsCatalogChecked, IsFetched, IsGrowthChecked, IsVerified}
 use Rattle.ats_top.specs.Outside.{Outside}
 use Rattle.ats_top.specs.Run.{IsCompleted, Ran}
 use Rattle.ats_top.specs.Serving.{Took}
@@ -44,3 +44,7 @@ module _ (H : List ℕ → List ℕ) (said : List (List ℕ)) (before now : Outs
   pub growth_checked : (words : GrowthWords) → command_of said ≡ Some (Checker (Growth words)) → Ran H said before now 0
       → (text : List ℕ) × IsGrowthChecked H before.shelf.files words text × Took before.sink now.sink text
   growth_checked words = printed (Checker (Growth words)) (λ files text. IsGrowthChecked H files words text) (tt, λ bytes growth files text is. is)
+
+  pub catalog_checked : (words : CatalogWords) → command_of said ≡ Some (Checker (Catalog words)) → Ran H said before now 0
+      → (text : List ℕ) × IsCatalogChecked H before.shelf.files words text × Took before.sink now.sink text
+  catalog_checked words = printed (Checker (Catalog words)) (λ files text. IsCatalogChecked H files words text) (λ query. (tt, λ bytes shards files text is. is))

@@ -1,7 +1,7 @@
 -- Words say their command, if the parts of them spell its root, its algorithm and its numbers.
 use Rattle.std.proofs.Common.{◌≡◌, ℕ, List, [], ◌∷◌, codes, Some, refl}
 use Rattle.ats_proof.specs.declared.record.Algorithm.{Algorithm}
-use Rattle.ats_console.specs.Words.{Ask, Both, Fetch, Growth, Prove, Verify, algorithm_of, command_of, number_of, root_word, prove_words, verify_words, fetch_words, both_words, growth_words, Checker, Maker}
+use Rattle.ats_console.specs.Words.{Ask, Both, Fetch, Growth, Prove, Verify, algorithm_of, command_of, number_of, root_word, prove_words, verify_words, fetch_words, both_words, growth_words, Catalog, catalog_words, Checker, Maker}
 
 pub verify_said : (root digest r query name : List ℕ) (rows : ℕ) → root_word root ≡ Some digest → number_of r ≡ Some rows
     → command_of (verify_words root r query name) ≡ Some (Checker (Verify (record { root = digest; r = rows; query = query; proof = name })))
@@ -26,3 +26,7 @@ both_said root digest query name is_root = rw is_root refl
 pub growth_said : (old before new now name : List ℕ) → root_word old ≡ Some before → root_word new ≡ Some now
     → command_of (growth_words old new name) ≡ Some (Checker (Growth (record { old = before; new = now; file = name })))
 growth_said old before new now name is_old is_new = rw (is_old, is_new) refl
+
+pub catalog_said : (root digest r query name : List ℕ) (rows : ℕ) → root_word root ≡ Some digest → number_of r ≡ Some rows
+    → command_of (catalog_words root r query name) ≡ Some (Checker (Catalog (record { root = digest; r = rows; query = query; file = name })))
+catalog_said root digest r query name rows is_root is_rows = rw (is_root, is_rows) refl

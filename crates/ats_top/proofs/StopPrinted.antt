@@ -14,7 +14,7 @@ use Rattle.ats_top.specs.Outside.{Outside}
 use Rattle.ats_top.specs.Run.{IsCompleted, IsHalted, IsUnprinted, RunEnds, StepsHold, LinksStop, LinksUnprinted, PrintsLast, Excuse, NoMemory, SinkFailed, ShelfFailed, Ran}
 use Rattle.ats_top.specs.Serving.{Took}
 use Rattle.ats_console.specs.declared.stops.Stop.{Stop}
-use Rattle.ats_console.specs.declared.stops.Stop.TheVariants.{Usage, Shelf, Input, Rejected, Memory, Link, Peer, Faults, Collision}
+use Rattle.ats_console.specs.declared.stops.Stop.TheVariants.{Shelf, Memory}
 use Rattle.ats_top.proofs.Concluded.{never_done}
 use Rattle.ats_top.proofs.OneCommand.{its}
 

@@ -1,8 +1,12 @@
 -- What holds if an accepted answer is wrong: each audit of the accepted bytes prints a collision.
-use Rattle.std.specs.Prelude.{◌≡◌, ◌≢◌, ◌⊎◌, ◌^◌, ℕ, List, [], ◌∷◌, codes, Some}
+use Rattle.std.specs.Prelude.{◌≡◌, ◌≢◌, ◌⊎◌, ◌^◌, ℕ, List, [], ◌∷◌, codes, Some, IsSome}
 use Rattle.ats_base.specs.Outside.{Rose}
 use Rattle.ats_tree.specs.Differences.{Difference}
 use Rattle.ats_commit.specs.Archive.{Archive}
+use Rattle.ats_proof.specs.Value.{Proof}
+use Rattle.ats_shards.specs.Value.{Framed, IsCatalogProof}
+use Rattle.ats_catalog.specs.Accepts.{AreProofs}
+use Rattle.ats_catalog.specs.Strings.{catalog_collision}
 use Rattle.ats_plan.specs.Files.{Files, IsTold, IsFile}
 use Rattle.ats_console.specs.Words.{number_of}
 use Rattle.ats_console.specs.Read.{HasIndex}
@@ -69,3 +73,12 @@ pub record IsCaught {P : Type 0} (H : List ℕ → List ℕ) (lines_of : Differe
   pub printed : (said : List (List ℕ)) (before now : Outside) (status : ℕ) → IsTold before.shelf.files
       → audits said before.shelf.files → Ran H said before now status
       → ((status ≡ 5) × Took before.sink now.sink (lines_of collision)) ⊎ IsHindered before now status
+
+-- the bytes spell proofs of shards, and the first string of these that is not the catalog's own at its place has an equal
+-- digest
+pub record HasCatalogCollision (H : List ℕ → List ℕ) (catalog : List Archive) (query : List (List ℕ × ℕ)) (bytes : List ℕ) : Type 0 where
+  pub shards : List Framed
+  pub says : IsCatalogProof bytes shards
+  pub proofs : List Proof
+  pub say : AreProofs shards proofs
+  pub collides : IsSome (catalog_collision H catalog query shards proofs)

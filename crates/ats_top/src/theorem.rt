@@ -13,18 +13,21 @@ ghost use Rattle.ats_proof.specs.declared.record.Algorithm.{Algorithm};
 ghost use Rattle.ats_client.specs.Headline.{AreRight};
 ghost use Rattle.ats_conjunction.specs.Documents.{both as with_every_term};
 ghost use Rattle.ats_consistency.specs.Headline.{HasGrown};
+ghost use Rattle.ats_shards.specs.Catalog.{IsCatalog, catalog_root};
+ghost use Rattle.ats_catalog.specs.Headline.{AreRightIn};
+ghost use Rattle.ats_catalog.specs.declared.row.CatalogRow.{CatalogRow};
 ghost use Rattle.ats_plan.specs.Files.{IsFile};
-ghost use Rattle.ats_console.specs.Words.{algorithm_of, number_of, root_word, verify_words, fetch_words, both_words, growth_words};
-ghost use Rattle.ats_console.specs.Print.{lines, lines_of_documents};
+ghost use Rattle.ats_console.specs.Words.{algorithm_of, number_of, root_word, verify_words, fetch_words, both_words, growth_words, catalog_words};
+ghost use Rattle.ats_console.specs.Print.{lines, lines_of_catalog, lines_of_documents};
 ghost use Rattle.ats_top.specs.Asked.{IsReplyVerified};
 ghost use Rattle.ats_auditors.specs.Collided.{lines_of_proof_collision, lines_of_growth_collision, lines_of_text_collision};
-ghost use Rattle.ats_checkers.specs.Commands.{IsBothChecked, IsFetched, IsGrowthChecked, IsVerified};
+ghost use Rattle.ats_checkers.specs.Commands.{IsBothChecked, IsCatalogChecked, IsFetched, IsGrowthChecked, IsVerified};
 ghost use Rattle.ats_top.specs.Conversation.{Converses};
 ghost use Rattle.ats_console.specs.Kinds.{line_of_grown, printed_text};
 ghost use Rattle.ats_top.specs.Outside.{Outside};
 ghost use Rattle.ats_top.specs.Run.{Ran};
 ghost use Rattle.ats_top.specs.Serving.{Took};
-ghost use Rattle.ats_top.specs.Theorem.{AuditsProof, AuditsText, AuditsBoth, AuditsGrowth, IsCaught};
+ghost use Rattle.ats_top.specs.Theorem.{AuditsProof, AuditsText, AuditsBoth, AuditsGrowth, IsCaught, HasCatalogCollision};
 
 use ats_hash::HashKind;
 
@@ -80,6 +83,14 @@ pub fn printed_answers_are_right<H: HashKind>()
         → root_of H.hash older ≡ older_root → root_of H.hash newer ≡ newer_root
         → HasGrown older newer m n
         ⊎ IsCaught H.hash lines_of_growth_collision (AuditsGrowth H.hash older newer bytes)) }
+    ensures catalog { (root r query file digest : List ℕ) (n : ℕ) (before now : Outside)
+        → root_word root ≡ Some digest → number_of r ≡ Some n
+        → Ran H.hash (catalog_words root r query file) before now 0
+        → (terms : List (List ℕ × ℕ)) × IsQueryOf query terms
+        × (bytes : List ℕ) × IsFile before.shelf.files file (2 ^ 28) bytes
+        × (rows : List CatalogRow) × Took before.sink now.sink (lines_of_catalog rows)
+        × ((catalog : List Archive) → IsCatalog catalog → catalog_root H.hash catalog ≡ digest
+        → AreRightIn catalog terms n rows ⊎ HasCatalogCollision H.hash catalog terms bytes) }
 {}
 
 /// If one of these commands ends with status 0, all that its check says holds of the bytes that it accepted, and the sink
@@ -111,4 +122,9 @@ pub fn accepted_answers_are_printed<H: HashKind>()
         → Ran H.hash (growth_words old new file) before now 0
         → (text : List ℕ) × IsGrowthChecked H.hash before.shelf.files
         (record { old = older_root; new = newer_root; file = file }) text × Took before.sink now.sink text }
+    ensures catalog { (root r query file digest : List ℕ) (n : ℕ) (before now : Outside)
+        → root_word root ≡ Some digest → number_of r ≡ Some n
+        → Ran H.hash (catalog_words root r query file) before now 0
+        → (text : List ℕ) × IsCatalogChecked H.hash before.shelf.files
+        (record { root = digest; r = n; query = query; file = file }) text × Took before.sink now.sink text }
 {}

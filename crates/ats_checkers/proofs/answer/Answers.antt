@@ -8,3 +8,6 @@ returns-in-Verify g c = rw c.in-Verify.is (record { ok = c.verify.ensures.ok; st
 
 pub returns-in-Both : goal.returns-in-Both
 returns-in-Both g c = rw c.in-Both.is (record { ok = c.both.ensures.ok; stop = c.both.ensures.stop; unread = c.both.ensures.unread })
+
+pub returns-in-Catalog : goal.returns-in-Catalog
+returns-in-Catalog g c = rw c.in-Catalog.is (record { ok = c.catalog.ensures.ok; stop = c.catalog.ensures.stop; unread = c.catalog.ensures.unread })

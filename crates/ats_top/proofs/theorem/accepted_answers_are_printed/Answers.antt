@@ -1,7 +1,7 @@
 use Rattle.std.proofs.Common.{[], ◌∷◌, codes}
-use Rattle.ats_console.specs.Words.{verify_words, fetch_words, both_words, growth_words}
-use Rattle.ats_top.proofs.Printed.{verified, replied, fetched, both_checked, growth_checked}
-use Rattle.ats_top.proofs.SaidWords.{verify_said, ask_said, fetch_said, both_said, growth_said}
+use Rattle.ats_console.specs.Words.{verify_words, fetch_words, both_words, growth_words, catalog_words}
+use Rattle.ats_top.proofs.Printed.{verified, replied, fetched, both_checked, growth_checked, catalog_checked}
+use Rattle.ats_top.proofs.SaidWords.{verify_said, ask_said, fetch_said, both_said, growth_said, catalog_said}
 use Rattle.ats_top.proofs.theorem.accepted_answers_are_printed.Goals as goal
 
 pub returns-clause-verify : goal.returns-clause-verify
@@ -29,3 +29,8 @@ pub returns-clause-growth : goal.returns-clause-growth
 returns-clause-growth g c old new file older_root newer_root before now is_old is_new =
     growth_checked g.H.HashKind.hash (growth_words old new file) before now (record { old = older_root; new = newer_root; file = file })
     (growth_said old older_root new newer_root file is_old is_new)
+
+pub returns-clause-catalog : goal.returns-clause-catalog
+returns-clause-catalog g c root r query file digest n before now is_root is_rows =
+    catalog_checked g.H.HashKind.hash (catalog_words root r query file) before now (record { root = digest; r = n; query = query; file = file })
+    (catalog_said root digest r query file n is_root is_rows)

@@ -1,11 +1,12 @@
 use Rattle.std.proofs.Common.{[], ◌∷◌, codes, subst}
 use Rattle.ats_client.specs.Rows.{rows_of}
 use Rattle.ats_conjunction.specs.Documents.{documents_shown}
-use Rattle.ats_console.specs.Words.{verify_words, fetch_words, both_words, growth_words}
+use Rattle.ats_console.specs.Words.{verify_words, fetch_words, both_words, growth_words, catalog_words}
 use Rattle.ats_top.specs.Serving.{Took}
+use Rattle.ats_top.proofs.CatalogPrinted.{right_or_collides}
 use Rattle.ats_top.proofs.Caught.{or_caught, proof_caught, text_caught, both_caught, growth_caught}
-use Rattle.ats_top.proofs.Printed.{verified, replied, fetched, both_checked, growth_checked}
-use Rattle.ats_top.proofs.SaidWords.{verify_said, ask_said, fetch_said, both_said, growth_said}
+use Rattle.ats_top.proofs.Printed.{verified, replied, fetched, both_checked, growth_checked, catalog_checked}
+use Rattle.ats_top.proofs.SaidWords.{verify_said, ask_said, fetch_said, both_said, growth_said, catalog_said}
 use Rattle.ats_top.proofs.theorem.printed_answers_are_right.Goals as goal
 
 pub returns-clause-verify : goal.returns-clause-verify
@@ -88,4 +89,20 @@ returns-clause-growth g c old new file older_root newer_root before now is_old i
       subst (Took before.sink now.sink) is.printed done.2,
       λ older newer are too same also. or_caught (is.headline older newer are too same also)
           (growth_caught H older_root newer_root own.bytes own.value own.accepted older newer same also),
+    )
+
+pub returns-clause-catalog : goal.returns-clause-catalog
+returns-clause-catalog g c root r query file digest n before now is_root is_rows ran =
+    let H = g.H.HashKind.hash in
+    let done = catalog_checked H (catalog_words root r query file) before now (record { root = digest; r = n; query = query; file = file })
+    (catalog_said root digest r query file n is_root is_rows) ran in
+    let is = done.1 in
+    let own = is.checked in (
+      is.query,
+      is.asked,
+      own.bytes,
+      own.file,
+      is.rows,
+      subst (Took before.sink now.sink) is.printed done.2,
+      λ catalog are same. right_or_collides H catalog is.query n own.value own.bytes is.rows own.accepted.says is.answer (is.headline catalog are same),
     )

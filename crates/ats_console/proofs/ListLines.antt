@@ -1,6 +1,6 @@
 -- The first line of some bytes, and the lines after it.
 use Rattle.std.proofs.Common.{◌≡◌, ◌≢◌, ◌-◌, ◌==◌, ◌∷◌, ◌<◌, ◌+◌, ℕ, zero, suc, false, List, [], length, take, drop, get_or, take_all, length-drop, refl, subst, arith}
-use Rattle.ats_auditors.specs.Listed.{lines_of}
+use Rattle.ats_console.specs.Lists.{lines_of}
 
 -- there is no line feed before this place
 abbrev pub NoneBefore : List ℕ → ℕ → Type 0

@@ -1,6 +1,6 @@
 use Rattle.std.proofs.Common.{◌≤◌, ◌-◌, length}
-use Rattle.ats_auditors.proofs.ListLines.{NoneBefore}
-use Rattle.ats_auditors.proofs.listing.first_line.Given as goal
+use Rattle.ats_console.proofs.ListLines.{NoneBefore}
+use Rattle.ats_console.proofs.lists.first_line.Given as goal
 
 abbrev pub invariant-bytes : goal.invariant-bytes
 invariant-bytes l = (l.at ≤ length l.bytes) × NoneBefore l.bytes l.at

@@ -1,7 +1,7 @@
 use Rattle.std.proofs.Common.{arith}
-use Rattle.ats_auditors.proofs.ListLines.{one_alone, cut_at}
-use Rattle.ats_auditors.proofs.listing.first_line.Goals.{then-bytes-test+else-bytes-at-ne10, else-bytes-test}
-use Rattle.ats_auditors.proofs.listing.first_line.Goals as goal
+use Rattle.ats_console.proofs.ListLines.{one_alone, cut_at}
+use Rattle.ats_console.proofs.lists.first_line.Goals.{then-bytes-test+else-bytes-at-ne10, else-bytes-test}
+use Rattle.ats_console.proofs.lists.first_line.Goals as goal
 
 pub returns-then-at-bytes-clause-lines : goal.returns-then-at-bytes-clause-lines
 returns-then-at-bytes-clause-lines c = one_alone c.args.bytes.now c.bytes.at c.requires c.if-at-bytes.true c.bytes.invariant.1

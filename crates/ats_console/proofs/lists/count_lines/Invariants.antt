@@ -1,6 +1,6 @@
 use Rattle.std.proofs.Common.{◌≡◌, ◌≤◌, ◌+◌, length}
-use Rattle.ats_auditors.specs.Listed.{lines_of}
-use Rattle.ats_auditors.proofs.listing.count_lines.Given as goal
+use Rattle.ats_console.specs.Lists.{lines_of}
+use Rattle.ats_console.proofs.lists.count_lines.Given as goal
 
 abbrev pub invariant-lines : goal.invariant-lines
 invariant-lines l = (l.count + length (lines_of l.rest) ≡ length (lines_of l.bytes)) × (l.count + length l.rest ≤ length l.bytes)
