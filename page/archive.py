@@ -69,7 +69,7 @@ class Archive:
 
 
 class Growths:
-    """The growths in a folder, such as `examples/publish.py` fills: files whose first bytes say which root leads to which."""
+    """The growths in a folder, such as `owner/announce.py` fills: files whose first bytes say which root leads to which."""
 
     def __init__(self, folder):
         self.folder = folder

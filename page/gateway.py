@@ -366,7 +366,7 @@ def words():
     said.add_argument("--program", default=os.path.join(os.path.dirname(HERE), "ats"), help="the program that makes these answers")
     said.add_argument("--keep", metavar="FOLDER", help="keep the files of texts here, and not in a new folder")
     said.add_argument("--runs", type=int, default=RUNS, help="runs of the program at the same time")
-    said.add_argument("--growths", metavar="FOLDER", type=Growths, help="offer the growths in this folder, such as publish.py fills")
+    said.add_argument("--growths", metavar="FOLDER", type=Growths, help="offer the growths in this folder, such as announce.py fills")
     return said.parse_args()
 
 

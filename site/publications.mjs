@@ -5,7 +5,7 @@ import { Fault, hostFault } from './fields.mjs';
 
 const MOST_PUBLICATION = 2 ** 20, MOST_GROWTH = 4096, MOST_STEPS = 64;
 const LATEST = 'publication.txt', numbered = number => `publication-${number}.txt`;
-const SHELF = /^shelf: [0-9]+\nroot: ([0-9a-f]{64})\nformat: [12]\ndocuments: [0-9]+\nbefore: (none|[0-9a-f]{64})\ngrowth: (none|[a-z0-9][a-z0-9.-]{0,63})$/gm;
+const SHELF = /^shard: [0-9]+\nroot: ([0-9a-f]{64})\nformat: [12]\ndocuments: [0-9]+\nbefore: (none|[0-9a-f]{64})\ngrowth: (none|[a-z0-9][a-z0-9.-]{0,63})$/gm;
 
 /** A publication: its number, whether first lines are titles, and of each shelf its root, the root before, and the name of the growth
  *  between them. */

@@ -1,5 +1,5 @@
-"""Tries the scripts for an archive's owner and for readers who follow it: `examples/collect.py`, `titles.py`, `publish.py`,
-`follow.py` and `keep.py`, with the real program and a real web server.
+"""Tries the scripts for an archive's owner and for readers who follow it: `owner/collect.py` and `announce.py`,
+`reader/follow.py`, `keep.py` and `titles.py`, with the real program and a real web server.
 
 usage: python3 tests/folders.py [PROGRAM]
 
@@ -18,7 +18,7 @@ from pathlib import Path
 from typing import Iterator, NamedTuple, Optional
 
 import roots
-from tries import STRANGE, Ended, Tries
+from tries import HOME, STRANGE, Ended, Tries
 from trying import program_of
 
 MIB = 1 << 20
@@ -47,12 +47,32 @@ LINKS = {b"f/file": b"../a.txt", b"f/folder": b"..", b"f/nothing": b"nowhere"}
 OTHERS = {**dict.fromkeys(LINKS, "it is a symbolic link"), b"g/pipe": "it is neither a file nor a folder"}
 
 PAGE = b"""<!DOCTYPE html><html><head><title>Hens &amp; foxes</title><style>p { color: red }</style></head>
-<body><h1>The hen</h1><script>var wolf = 1 < 2;</script><p>A <b>red</b> fox&nbsp;ran<br>off.</p><ul><li>one<li>two</ul></body>"""
-PAGE_TEXT = "Hens & foxes\nThe hen\nA red fox ran\noff.\none\ntwo"
+<body><nav>home</nav><h1>The hen</h1><svg><title>beak</title></svg><script>var wolf = 1 < 2;</script><p>A <b>red</b> fox&nbsp;ran<br>off.</p>
+<pre>
+one
+
+  two  three</pre><ul><li>one<li>two</ul></body>"""
+PAGE_TEXT = "The hen\nbeak\nA red fox ran\noff.\none\n\n  two  three\none\ntwo"
+MAILS = b"""From a@b.c Mon
+Subject: Hi =?utf-8?q?caf=C3=A9?=
+From: a@b.c
+
+hello
+>From here
+
+From d@e.f Tue
+Content-Type: text/html
+
+<p>page</p>
+"""
 
 
 def items_of(data: bytes) -> list[tuple[bytes, bytes]]:
     return [(item["title"].encode(), item["text"].encode()) for item in json.loads(data)]
+
+
+def name_of(item: dict) -> str:
+    return item.get("path", item["title"])
 
 
 def make_hostile(tries: Tries) -> None:
@@ -71,7 +91,7 @@ def hostile(tries: Tries) -> None:
     tries.check("hostile files: the others are taken, by path", ended.status == 0 and items_of(ended.printed) == wanted)
     reasons = {**OTHERS, **{name: why for name, (_, why) in FILES.items() if why}}
     lines = [f"passed over {os.path.join('hostile', os.fsdecode(name))!r}: {why}" for name, why in reasons.items()]
-    lines.append(f"files: {len(wanted)} taken, {len(reasons)} passed over")
+    lines.append(f"files: {len(wanted)} taken, {len(reasons)} passed over, 0 left out")
     tries.check("hostile files: the reasons are said", sorted(ended.said.splitlines()) == sorted(lines))
     stored = tries.collect("hostile", "hostile/z.json")
     again = tries.collect("hostile/", "hostile/z.json")
@@ -143,7 +163,7 @@ def faults(tries: Tries) -> None:
     tries.check("a folder in place of the collection", tries.collect("titled", "empty").status == 1 and not tries.parts())
     ended = tries.collect("nowhere\x1b[31m")
     tries.check("a folder to read that is not there", ended.status == 2 and "\x1b" not in ended.said)
-    tries.check("shelves without a folder for them", tries.collect("--shelves", "titled").status == 2)
+    tries.check("shards without a folder for them", tries.collect("--shards", "titled").status == 2)
     if os.path.exists("/dev/full"):
         tries.check("a full standard output", tries.collect("titled", output=Path("/dev/full")).status == 1)
     for name, data in (("no JSON", b"["), ("half a surrogate", b'[{"title": "\\ud800", "text": ""}]'), ("no title", b'["fox"]')):
@@ -192,7 +212,7 @@ def at_limits(tries: Tries) -> None:
         tries.check(f"{limit.name}: the program takes it", tries.ask("rank", name, "1", "fox").status == 0)
         tries.put(folder, {path: data for path, data in limit.above.items() if limit.at.get(path) != data})
         ended = tries.collect(folder, name)
-        tries.check(f"{limit.name}, and one more: nothing is written", ended.status == 3 and ended.said.count("passed over ") == 1 and tries.read(name) == spelt(limit.at))
+        tries.check(f"{limit.name}, and one more: nothing is written", ended.status == 3 and ended.said.count("left out ") == 1 and tries.read(name) == spelt(limit.at))
         ended = tries.collect("--partial", folder, name)
         left = 0 if len(limit.above) > 1 else 1
         tries.check(f"{limit.name}, and one more: the rest, if that is said and if there is one", ended.status == left)
@@ -205,23 +225,57 @@ def at_limits(tries: Tries) -> None:
 def later_fits(tries: Tries) -> None:
     tries.put("large", {**{b"%02d" % at: b"fox " * (MIB // 4) for at in range(15)}, b"15": b"a" * (MIB - 10), b"16": b"a" * 11, b"17": b"hen " * 2 + b"ab"})
     ended = tries.collect("--partial", "large", "large.json")
-    tries.check("after a file that is too much a smaller one is taken", ended.status == 0 and ended.said == "passed over 'large/16': with it all texts would be above 16 MiB\nfiles: 17 taken, 1 passed over\n")
+    tries.check("after a file that is too much a smaller one is taken", ended.status == 0 and ended.said == "left out 'large/16': with it all texts would be above 16 MiB\nfiles: 17 taken, 0 passed over, 1 left out\n")
 
 
 def pages(tries: Tries) -> None:
     tries.put("pages", {b"a.html": PAGE, b"b.HTM": b"<p>unclosed <script>wolf", b"c.txt": b"<b>", b"d.html": b"<p>\xff", b"e.html": b"<![bad" + b"<" * 100})
-    ended = tries.collect("--html", "pages", "pages.json")
-    texts = {item["title"]: item["text"] for item in json.loads(tries.read("pages.json"))}
-    tries.check("pages: what they show is the text", ended.status == 0 and texts["a.html"] == PAGE_TEXT and texts["b.HTM"] == "unclosed" and texts["c.txt"] == "<b>")
-    tries.check("a page that is not UTF-8", "d.html" not in texts and "'pages/d.html': it is not UTF-8" in ended.said)
+    ended = tries.collect("pages", "pages.json")
+    items = {name_of(item): item for item in json.loads(tries.read("pages.json"))}
+    tries.check("pages: what they show is the text", ended.status == 0 and [items[name]["text"] for name in ("a.html", "b.HTM", "c.txt")] == [PAGE_TEXT, "unclosed", "<b>"])
+    tries.check("pages: their titles", [items[name]["title"] for name in ("a.html", "b.HTM")] == ["Hens & foxes", "b.HTM"])
+    tries.check("a page that is not UTF-8", "d.html" not in items and "'pages/d.html': it is not UTF-8" in ended.said)
     old = json.loads(tries.read("pages.json"))
     old[0]["text"] = "as another converter has it"
     (tries.folder / "pages.json").write_text(json.dumps(old))
-    ended = tries.collect("--html", "--after", "pages.json", "pages", "pages-2.json")
+    ended = tries.collect("--after", "pages.json", "pages", "pages-2.json")
     tries.check("a converted file that is the same keeps its text", ended.status == 0 and json.loads(tries.read("pages-2.json")) == old)
     tries.put("pages", {b"a.html": PAGE + b"<!-- -->"})
-    ended = tries.collect("--html", "--after", "pages.json", "pages", "pages-3.json")
+    ended = tries.collect("--after", "pages.json", "pages", "pages-3.json")
     tries.check("a converted file that was changed is named", ended.status == 1 and "document 0 of 'pages.json', 'a.html': it has another text" in ended.said)
+
+
+def choices(tries: Tries) -> None:
+    """Programs and data only if they are named, and lines that stay few."""
+    tries.put("chosen", {b"a/x.js": b"var hen", b"b.svg": b"<svg/>", b"c.txt": b"fox", b"d.md": b"# hen", **{b"bad/%02d" % at: b"\xff" for at in range(14)}})
+    ended = tries.collect("chosen", "chosen.json")
+    tries.check("programs are passed over, and ten of sixteen lines say so", [name for name, _ in items_of(tries.read("chosen.json"))] == [b"c.txt", b"d.md"] and ended.said.count("passed over 'chosen/") == 10 and "passed over 6 more" in ended.said)
+    tries.collect("--include", "*.js", "--exclude", "*.txt", "chosen", "chosen.json")
+    tries.check("patterns that include and exclude", [name for name, _ in items_of(tries.read("chosen.json"))] == [b"a/x.js", b"d.md"])
+    ended = tries.collect("--after", "chosen.json", "chosen", "chosen-2.json")
+    tries.check("what was taken is kept without them", ended.status == 0 and [name for name, _ in items_of(tries.read("chosen-2.json"))] == [b"a/x.js", b"d.md", b"c.txt"])
+    tries.put("chosen", {b"bad/%02d.txt" % at: b"a" * (MIB + 1) for at in range(12)})
+    ended = tries.collect("chosen", "chosen.json")
+    tries.check("twelve files are left out, and ten lines say so", ended.status == 3 and ended.said.count("left out 'chosen/") == 10 and "left out 2 more" in ended.said)
+    changed = [{"title": f"{at:02}", "text": ""} for at in range(13)]
+    (tries.folder / "gone.json").write_text(json.dumps(changed))
+    ended = tries.collect("--after", "gone.json", "chosen", "chosen.json")
+    tries.check("thirteen files are missing, and ten lines say so", ended.status == 1 and ended.said.count("it is missing") == 10 and "cannot keep 3 more" in ended.said)
+
+
+def messages(tries: Tries) -> None:
+    """Mailboxes, messages and JSON lines: each part is a document, and new parts come after the others."""
+    tries.put("mail", {b"box.mbox": MAILS, b"one.eml": b"Subject: \n" + MAILS.partition(b"\n")[2], b"bad.eml": b"\xff\xfe", b"x.jsonl": b'{"t": "red fox", "n": "Fox"}\n\n{"t": 3}\n[]\n'})
+    ended = tries.collect("--title-line", "--jsonl", "t", "n", "mail", "mail.json")
+    texts = {name_of(item): item["text"] for item in json.loads(tries.read("mail.json"))}
+    tries.check("messages of a mailbox", (texts["box.mbox#1"], texts["box.mbox#2"]) == ("Hi caf\u00e9\nFrom: a@b.c\n\nhello\nFrom here", "box.mbox#2\n\npage"))
+    tries.check("JSON lines", texts["x.jsonl#1"] == "Fox\nred fox" and "'mail/x.jsonl#2': it has no text 't'" in ended.said and "'mail/x.jsonl#3'" in ended.said)
+    tries.put("mail", {b"box.mbox": MAILS + b"\n" + MAILS})
+    ended = tries.collect("--title-line", "--jsonl", "t", "n", "--after", "mail.json", "mail", "mail-2.json")
+    tries.check("a mailbox that grew", ended.status == 0 and json.loads(tries.read("mail-2.json"))[:len(texts)] == json.loads(tries.read("mail.json")) and len(json.loads(tries.read("mail-2.json"))) == len(texts) + 2)
+    tries.put("mail", {b"box.mbox": MAILS.replace(b"hello", b"yello")})
+    ended = tries.collect("--title-line", "--jsonl", "t", "n", "--after", "mail.json", "mail", "mail-3.json")
+    tries.check("a message that was changed is named", ended.status == 1 and "'box.mbox#1': it has another text" in ended.said)
 
 
 def pdf_of(words: str) -> bytes:
@@ -240,57 +294,64 @@ def pdf_of(words: str) -> bytes:
 
 def pdfs(tries: Tries) -> None:
     if shutil.which("pdftotext") is None:
-        tries.check("--pdf without pdftotext", tries.collect("--pdf", "titled").status == 2)
         tries.skip("PDF files: pdftotext is not installed")
         return
     tries.put("pdfs", {b"-o x.pdf": pdf_of("a red fox"), b"bad.pdf": b"%PDF-1.4\nno more", b"c.txt": b"hen"})
-    ended = tries.collect("--pdf", "pdfs", "pdfs.json")
+    ended = tries.collect("pdfs", "pdfs.json")
     texts = {item["title"]: item["text"].split() for item in json.loads(tries.read("pdfs.json"))}
     tries.check("PDF files: their text", ended.status == 0 and texts == {"-o x.pdf": ["a", "red", "fox"], "c.txt": ["hen"]})
+    none = tries.run(sys.executable, HOME / "owner" / "collect.py", "pdfs", PATH="/nowhere")
+    tries.check("PDF files without pdftotext", none.status == 0 and none.said.count("there is no pdftotext") == 2)
     tries.check("a damaged PDF file", "'pdfs/bad.pdf': pdftotext cannot read it" in ended.said)
-    tries.check("PDF files again", tries.collect("--pdf", "--after", "pdfs.json", "pdfs", "pdfs-2.json").status == 0 and tries.read("pdfs-2.json") == tries.read("pdfs.json"))
+    tries.check("PDF files again", tries.collect("--after", "pdfs.json", "pdfs", "pdfs-2.json").status == 0 and tries.read("pdfs-2.json") == tries.read("pdfs.json"))
 
 
-def of_shelves(tries: Tries, *shelves: str) -> list[int]:
-    """How many documents each shelf has, if the program takes them and shelves.txt has them in their places."""
-    items = [items_of(tries.read(f"shelves/{name}")) for name in shelves]
-    lines = [f"{shelf} {document} {title.decode()}" for shelf, each in enumerate(items, 1) for document, (title, _) in enumerate(each)]
-    taken = all(tries.ask("rank", f"shelves/{name}", "1", "fox").status == 0 for name in shelves)
-    return [len(each) for each in items] if taken and tries.read("shelves/shelves.txt").decode().splitlines() == lines else []
+def of_shards(tries: Tries, *shards: str) -> list[int]:
+    """How many documents each shard has, if the program takes them and shards.txt has them in their places."""
+    items = [items_of(tries.read(f"shards/{name}")) for name in shards]
+    lines = [f"{shard} {document} {title.decode()}" for shard, each in enumerate(items) for document, (title, _) in enumerate(each)]
+    taken = all(tries.ask("rank", f"shards/{name}", "1", "fox").status == 0 for name in shards)
+    return [len(each) for each in items] if taken and tries.read("shards/shards.txt").decode().splitlines() == lines else []
 
 
-def shelves(tries: Tries) -> None:
+def shards(tries: Tries) -> None:
     full = {b"m%02d" % at: b"fox " * (MIB // 4) for at in range(17)}
-    tries.put("shelved", full)
-    ended = tries.collect("--shelves", "shelved", "shelved/shelves")
-    tries.check("a full shelf: the next begins", ended.status == 0)
-    shutil.move(tries.folder / "shelved" / "shelves", tries.folder / "shelves")
-    names = ["shelf-1.json", "shelf-2.json"]
-    tries.check("what is where is listed", of_shelves(tries, *names) == [16, 1])
-    first = tries.read("shelves/shelf-1.json")
-    tries.put("shelved", {b"a small one": b"hen", b"n00": b"fox " * (MIB // 4)})
-    ended = tries.collect("--shelves", "shelved", "shelves")
-    tries.check("a closed shelf stays closed", ended.status == 0 and tries.read("shelves/shelf-1.json") == first and of_shelves(tries, *names) == [16, 3])
-    last = tries.read("shelves/shelf-2.json")
-    tries.put("shelved", {b"o00": b"a" * (MIB + 1), b"o01": b"fox"})
-    ended = tries.collect("--shelves", "shelved", "shelves")
-    tries.check("a file above a limit: the shelves stay", ended.status == 3 and tries.read("shelves/shelf-2.json") == last)
-    tries.put("shelved", {b"o00": b"fox", b"m03": b"fox"})
-    ended = tries.collect("--shelves", "shelved", "shelves")
-    tries.check("a file of a closed shelf that was changed", ended.status == 1 and "document 3 of 'shelves/shelf-1.json', 'm03'" in ended.said and tries.read("shelves/shelf-2.json") == last)
-    (tries.folder / "shelves" / "shelf-1.json").rename(tries.folder / "shelf-1.json")
-    ended = tries.collect("--shelves", "shelved", "shelves")
-    tries.check("a shelf that is missing", ended.status == 1 and "'shelves/shelf-1.json' is missing" in ended.said)
-    (tries.folder / "shelf-1.json").rename(tries.folder / "shelves" / "shelf-1.json")
-    tries.put("shelved", {b"m03": full[b"m03"]})
-    tries.check("nothing else is left there", sorted(os.listdir(tries.folder / "shelves")) == [*names, "shelves.txt"])
+    tries.put("sharded", full)
+    ended = tries.collect("--shards", "sharded", "sharded/shards")
+    tries.check("a full shard: the next begins", ended.status == 0)
+    shutil.move(tries.folder / "sharded" / "shards", tries.folder / "shards")
+    names = ["shard-0.json", "shard-1.json"]
+    tries.check("what is where is listed", of_shards(tries, *names) == [16, 1])
+    first = tries.read("shards/shard-0.json")
+    tries.put("sharded", {b"a small one": b"hen", b"n00": b"fox " * (MIB // 4)})
+    ended = tries.collect("--shards", "sharded", "shards")
+    tries.check("a closed shard stays closed", ended.status == 0 and tries.read("shards/shard-0.json") == first and of_shards(tries, *names) == [16, 3])
+    last = tries.read("shards/shard-1.json")
+    tries.put("sharded", {b"o00": b"a" * (MIB + 1), b"o01": b"fox"})
+    ended = tries.collect("--shards", "sharded", "shards")
+    tries.check("a file above a limit: the shards stay", ended.status == 3 and tries.read("shards/shard-1.json") == last)
+    tries.put("sharded", {b"o00": b"fox", b"m03": b"fox"})
+    ended = tries.collect("--shards", "sharded", "shards")
+    tries.check("a file of a closed shard that was changed", ended.status == 1 and "document 3 of 'shards/shard-0.json', 'm03'" in ended.said and tries.read("shards/shard-1.json") == last)
+    (tries.folder / "shards" / "shard-0.json").rename(tries.folder / "shard-0.json")
+    ended = tries.collect("--shards", "sharded", "shards")
+    tries.check("a shard that is missing", ended.status == 1 and "'shards/shard-0.json' is missing" in ended.said)
+    (tries.folder / "shard-0.json").rename(tries.folder / "shards" / "shard-0.json")
+    tries.put("sharded", {b"m03": full[b"m03"]})
+    tries.put("began", {b"b": b"fox"})
+    tries.collect("began", "began.json")
+    tries.put("began", {b"a%02d" % at: b"fox " * (MIB // 4) for at in range(16)})
+    ended = tries.collect("--shards", "--after", "began.json", "began", "began.shards")
+    first, second = (items_of(tries.read(f"began.shards/shard-{at}.json")) for at in (0, 1))
+    tries.check("who began with one archive goes on with it as shard 0", ended.status == 0 and first[0] == (b"b", b"fox") and (len(first), len(second)) == (16, 1))
+    tries.check("nothing else is left there", sorted(os.listdir(tries.folder / "shards")) == [*names, "shards.txt"])
 
 
 def main() -> int:
     program = program_of(sys.argv[1:])
     with tempfile.TemporaryDirectory() as folder:
         tries = Tries(Path(folder), program)
-        for each in (hostile, unreadable, title_lines, titles, faults, at_limits, later_fits, pages, pdfs, shelves, *roots.CASES):
+        for each in (hostile, unreadable, title_lines, titles, faults, at_limits, later_fits, pages, choices, messages, pdfs, shards, *roots.CASES):
             each(tries)
         tries.check("no script leaves half a file", not tries.parts())
         return tries.conclude()

@@ -2,12 +2,13 @@
 
 usage: python3 tests/package.py [--parts FOLDER]
 
-It needs a clone without changes; ./package first proves what is not proved yet. With --parts it packs the parts in that
+It needs a clone without changes to the files of the commit; ./package first proves what is not proved yet. With --parts it packs the parts in that
 folder instead, and packs them a second time in another clone. Prints each try and whether it passed, what was skipped, and
 at the end 'N passed, M failed'. Ends with status 0 if none failed.
 """
 
 import argparse
+import contextlib
 import os
 import re
 import shutil
@@ -16,7 +17,7 @@ import sys
 import tempfile
 import urllib.request
 from pathlib import Path
-from typing import Callable, NamedTuple, Optional
+from typing import Callable, Iterator, NamedTuple, Optional
 
 from trying import Differs, Skipped, expect
 
@@ -72,7 +73,10 @@ def package() -> Path:
 
 def same_bytes_twice(house: House) -> None:
     """Again in another place, if it need not be proved there, and under another umask, zone and language."""
-    first = digests(well(HOME / "package", *house.words, limit=None))
+    with left_by_readme() as names:
+        said = well(HOME / "package", *house.words, limit=None)
+    first = digests(said)
+    expect("the files that git does not know", [f"not in the package: {name!r}" in said for name in names], [True] * len(names))
     place = HOME
     if house.words:
         place = house.folder / "another place"
@@ -81,6 +85,19 @@ def same_bytes_twice(house: House) -> None:
     second = digests(well("sh", "-c", 'umask 077 && exec "$0" "$@"', place / "package", *house.words, limit=None, env=other))
     expect("the digests", second, first)
     well("dpkg-deb", "-x", package(), house.root)
+
+
+@contextlib.contextmanager
+def left_by_readme() -> "Iterator[list[str]]":
+    """Files at the top that git does not know, as those that the lines of README.md leave, and one among the sources."""
+    names = ["answer.proof.try", "a name\nof two lines", "owner/mine.py"]
+    for name in names:
+        (HOME / name).write_bytes(b"mine")
+    try:
+        yield names
+    finally:
+        for name in names:
+            (HOME / name).unlink()
 
 
 def digests(said: str) -> "list[str]":
@@ -158,12 +175,15 @@ def page(house: House) -> None:
             gateway.terminate()
 
 
-def folder_maker(house: House) -> None:
-    source, _ = index(house)
-    second, made = house.folder / "archive.index2", house.folder / "site"
-    root = well(house.program, "migrate", source, second).strip()
-    well(sys.executable, house.root / "usr/lib/ats/site/make.py", second, made)
-    expect("what is in the folder of the archive", (made / f"{root}-1" / "head").is_file(), True)
+def owner_and_reader(house: House) -> None:
+    """The packed commands publish a folder with the packed page, and follow it."""
+    texts, public, bin_ = house.folder / "texts", house.folder / "public", house.root / "usr/bin"
+    texts.mkdir()
+    (texts / "fox.txt").write_text("red fox", encoding="utf-8")
+    root = well(bin_ / "ats-publish", texts, public).strip().rpartition(" ")[2]
+    expect("what a host has of it", [(public / name).is_file() for name in (f"{root}-1/head", "index.html", "page.wasm")], [True] * 3)
+    followed = well(bin_ / "ats-follow", public, house.folder / "roots.log", "--root", root)
+    expect("the root that a reader follows", followed.strip().splitlines()[-1], root)
 
 
 # The manual page and the completions
@@ -251,7 +271,7 @@ TRIES: "dict[str, Callable[[House], None]]" = {
     "the library": library,
     "the portable C": portable,
     "the page": page,
-    "the maker of folders": folder_maker,
+    "the owner's command and the reader's": owner_and_reader,
     "the manual page": manual_page_is_well_formed,
     "the statuses of the manual": statuses_of_the_manual,
     "the examples of the manual": examples_of_the_manual,

@@ -21,6 +21,7 @@ from typing import NamedTuple, Optional
 
 HOME = Path(__file__).resolve().parent.parent
 LIMIT = 60  # seconds of one line
+SIGNERS = ("minisign",)  # lines that name these are left out where they are not installed
 LEFT_OUT = ("rt ci", "python3 reader/play.py")
 TEXTS = {"one.txt": "a blood count", "two.txt": "count the hens", "three.txt": "red fox"}
 
@@ -75,7 +76,7 @@ class Session:
         return type_in([*self.variables, typed.replace("FOLDER", "folder")], self.folder)
 
     def try_line(self, line: Line) -> None:
-        if line.typed in LEFT_OUT:
+        if line.typed in LEFT_OUT or any(tool in line.typed and shutil.which(tool) is None for tool in SIGNERS):
             print(f"left out: {line.typed}")
             return
         ended = self.run(line.typed)
@@ -126,7 +127,7 @@ class Session:
 
 def prepare(folder: Path, program: Path) -> None:
     (folder / "ats").symlink_to(program)
-    for name in ("examples", "site"):  # copied, so that the scripts find the program beside them
+    for name in ("examples", "owner", "reader", "site"):  # copied, so that the scripts find the program beside them
         shutil.copytree(HOME / name, folder / name)
     (folder / "folder").mkdir()
     for name, text in TEXTS.items():

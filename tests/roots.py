@@ -1,14 +1,19 @@
-"""Tries `examples/publish.py`, `follow.py` and `keep.py`, for `folders.py`: archives that grow, owners and servers that
+"""Tries `owner/announce.py`, `reader/follow.py` and `keep.py`, for `folders.py`: archives that grow, owners and servers that
 misbehave, and signatures."""
 
 import re
 import shutil
 import socket
+import sys
 from concurrent.futures import ThreadPoolExecutor
 from pathlib import Path
 
 from misbehaving import replying, web
-from tries import STRANGE, Ended, Tries
+from tries import HOME, STRANGE, Ended, Tries
+from trying import ROOT
+
+sys.path.append(str(HOME / "owner"))
+from publication import catalog_root  # noqa: E402
 
 FORGED = "f" * 64  # a root that no archive has
 
@@ -24,7 +29,7 @@ def publish(tries: Tries, site: str, number: int, more: dict[bytes, bytes]) -> s
     if number > 1:
         tries.check(f"folder {number} has grown", tries.ask("grow", f"{old}.index", f"{new}.index", f"{new}.growth").status == 0)
         growth = ["--growth", f"{new}.growth"]
-    ended = tries.script("publish", site, f"{new}.index", *growth)
+    ended = tries.script("announce", site, f"{new}.index", *growth)
     tries.check(f"publication {number} is written", ended.status == 0 and ended.printed.startswith(b"publication-%d.txt is written" % number))
     return root
 
@@ -91,17 +96,17 @@ def kept_promises(tries: Tries) -> None:
     tries.check("a collection that begins again", tries.collect("broken", "broken.json").status == 0)
     for name in ("changed", "broken"):
         tries.root(f"{name}.json", f"{name}.index")
-    same = tries.script("publish", "site", "notes-4.index")
+    same = tries.script("announce", "site", "notes-4.index")
     tries.check("one root is not published twice", same.status == 1 and "has these roots already" in same.said)
     for name, more in (("no growth", []), ("the growth between other roots", ["--growth", "notes-3.growth"]), ("no growth file", ["--growth", "notes-3.json"])):
-        ended = tries.script("publish", "site", "broken.index", *more)
+        ended = tries.script("announce", "site", "broken.index", *more)
         tries.check(f"another root is not published with {name}", ended.status == 1 and "nothing is written" in ended.said)
-    tries.check("what is no index is not published", tries.script("publish", "site", "broken.json").status == 1)
-    tries.check("a date that is none", tries.script("publish", "--date", "31 May", "site", "broken.index").status == 2)
-    tries.check("a growth that no shelf needs", tries.script("publish", tries.put("new", {b"x": b""}), "broken.index", "--growth", "notes-3.growth").status == 1)
+    tries.check("what is no index is not published", tries.script("announce", "site", "broken.json").status == 1)
+    tries.check("a date that is none", tries.script("announce", "--date", "31 May", "site", "broken.index").status == 2)
+    tries.check("a growth that no shard needs", tries.script("announce", tries.put("new", {b"x": b""}), "broken.index", "--growth", "notes-3.growth").status == 1)
     shutil.copy(tries.folder / "site" / "publication-3.txt", tries.folder / "new" / "publication.txt")
     shutil.copy(tries.folder / "site" / "publication-4.txt", tries.folder / "new" / "publication-4.txt")
-    ended = tries.script("publish", "new", "notes-4.index", "--growth", "notes-4.growth")
+    ended = tries.script("announce", "new", "notes-4.index", "--growth", "notes-4.growth")
     tries.check("a number that was given out is not used again", ended.status == 1 and "publication-4.txt is there" in ended.said)
 
 
@@ -110,11 +115,12 @@ def site_of(tries: Tries, name: str, old: str = "site") -> Path:
 
 
 def edited(tries: Tries, name: str, old: str, *edits: tuple[str, str]) -> str:
-    """A copy of a site in which the fifth publication is edited, by patterns of its lines."""
+    """A copy of a site in which the fifth publication is edited, by patterns of its lines. Its catalog is that of its roots."""
     site = site_of(tries, name, old)
     text = (site / "publication.txt").read_text()
     for pattern, new in edits:
         text = re.sub(f"(?m)^{pattern}$", new, text)
+    text = re.sub("(?m)^catalog: .*$", f"catalog: {catalog_root(re.findall('^root: (.*)$', text, re.M))}", text)
     for each in ("publication.txt", "publication-5.txt"):
         (site / each).write_text(text)
     return name
@@ -146,21 +152,21 @@ def misbehaving_owner(tries: Tries, roots: list[str]) -> None:
     refused(tries, "a publication that was rolled back", "back", "rolled back", "your log has publication 4")
     fork = site_of(tries, "fork", "back")
     (fork / "publication-4.txt").unlink()
-    tries.check("an owner begins again", tries.script("publish", "--anew", "fork", "changed.index").status == 0)
+    tries.check("an owner begins again", tries.script("announce", "--anew", "fork", "changed.index").status == 0)
     refused(tries, "another publication of the same number", "fork", "forked", "publication 4")
     site_of(tries, "later", "fork")
-    tries.check("and goes on", tries.script("publish", "--anew", "later", "broken.index").status == 0)
+    tries.check("and goes on", tries.script("announce", "--anew", "later", "broken.index").status == 0)
     refused(tries, "a publication after another root", "later", "forked", "a root of no publication of your log")
-    for name, wanted in (("changed", "begins anew"), ("broken", "documents were withdrawn: shelf 1 had 8, and has 7")):
+    for name, wanted in (("changed", "begins anew"), ("broken", "documents were withdrawn: shard 0 had 8, and has 7")):
         site_of(tries, f"anew-{name}")
-        tries.check(f"an owner publishes what is {name}", tries.script("publish", "--anew", f"anew-{name}", f"{name}.index").status == 0)
+        tries.check(f"an owner publishes what is {name}", tries.script("announce", "--anew", f"anew-{name}", f"{name}.index").status == 0)
         refused(tries, f"an archive that is {name}", f"anew-{name}", wanted, "publication 5")
 
 
 def false_growths(tries: Tries, roots: list[str]) -> None:
     site_of(tries, "next")
     new = publish(tries, "next", 5, month(5))
-    true = tries.read("next/growth-5-1")
+    true = tries.read("next/growth-5-0")
     (tries.folder / "unicode.log").write_bytes(tries.read("roots.log"))
     ended = tries.script("follow", edited(tries, "unicode", "next", ("unicode: .*", "unicode: 19.0")), "unicode.log")
     tries.check("another version of Unicode is accepted, and a line says so", ended.status == 0 and "it is for Unicode 19.0" in ended.said)
@@ -168,26 +174,26 @@ def false_growths(tries: Tries, roots: list[str]) -> None:
     refused(tries, "numbers that the growth does not show", edited(tries, "number", "next", ("documents: .*", "documents: 11")), "other numbers")
     refused(tries, "another format", edited(tries, "format", "next", ("format: 1", "format: 2")), "other numbers")
     refused(tries, "a root that did not change with other numbers", edited(tries, "same", "next", (f"root: {new}", f"root: {roots[3]}")), "other numbers")
-    refused(tries, "a growth between other roots", edited(tries, "other", "next", ("growth: .*", "growth: growth-4-1")), "refused: other-old")
+    refused(tries, "a growth between other roots", edited(tries, "other", "next", ("growth: .*", "growth: growth-4-0")), "refused: other-old")
     # The header of the first archive in place of the new one: fewer documents, though the publication says otherwise.
-    shrunk = true[:110] + tries.read("next/growth-2-1")[4:110] + true[216:]
+    shrunk = true[:110] + tries.read("next/growth-2-0")[4:110] + true[216:]
     for name, data, wanted in (("false", true[:-1] + bytes([true[-1] ^ 1]), "withdrawn or changed"), ("cut", true[:-1], "damaged"), ("shrunk", shrunk, "documents were withdrawn (refused: shrunk 8 2)")):
         edits = [(f"root: {new}", f"root: {roots[0]}")] if name == "shrunk" else []
         edited(tries, name, "next", *edits)
-        (tries.folder / name / "growth-5-1").write_bytes(data)
+        (tries.folder / name / "growth-5-0").write_bytes(data)
         refused(tries, f"a growth that is {name}", name, wanted)
-        kept = [path.read_bytes() for path in tries.folder.glob(f"{name}.log.refused-*.growth-1")]
+        kept = [path.read_bytes() for path in tries.folder.glob(f"{name}.log.refused-*.growth-0")]
         tries.check(f"a growth that is {name}: it is kept", kept == [data])
 
 
 def unreadable_sources(tries: Tries) -> None:
-    for name, gone in (("gone-growth", "growth-5-1"), ("gone-newest", "publication.txt")):
+    for name, gone in (("gone-growth", "growth-5-0"), ("gone-newest", "publication.txt")):
         (site_of(tries, name, "next") / gone).unlink()
         unread(tries, f"a missing {gone}", name, gone, "No such file")
     (tries.folder / "early.site").mkdir()
     shutil.copy(tries.folder / "site" / "publication.txt", tries.folder / "early.site")
     unread(tries, "a missing publication in between", "early.site", "publication-2.txt", log="early.log")
-    for name, old, new in (("up", "growth: .*", "growth: ../growth-5-1"), ("twice", "root: (.*)", r"root: \1\nroot: \1"), ("blank", "date: ", "date:"), ("end", "growth: (.*)", r"growth: \1\nmore: 1"), ("many", "shelves: 1", "shelves: 1001")):
+    for name, old, new in (("up", "growth: .*", "growth: ../growth-5-0"), ("twice", "root: (.*)", r"root: \1\nroot: \1"), ("blank", "date: ", "date:"), ("end", "growth: (.*)", r"growth: \1\nmore: 1"), ("many", "shards: 1", "shards: 4097")):
         unread(tries, f"a publication out of form: {name}", edited(tries, f"form-{name}", "next", (f"{old}.*" if name == "blank" else old, new)), "is no publication")
     long = site_of(tries, "long-file", "next")
     (long / "publication.txt").write_bytes(b"x" * ((1 << 20) + 1))
@@ -239,31 +245,57 @@ def growing(tries: Tries) -> None:
     misbehaving_network(tries)
 
 
-def of_shelves(tries: Tries) -> None:
-    """The shelves that were collected: the first is full, the second grows, and a third begins."""
+def of_shards(tries: Tries) -> None:
+    """The shards that were collected: the first is full, the second grows, and a third begins."""
     (tries.folder / "two").mkdir()
-    first, second = tries.root("shelves/shelf-1.json", "s1.index"), tries.root("shelves/shelf-2.json", "s2.index")
-    tries.check("two shelves are published in one file", tries.script("publish", "two", "s1.index", "s2.index").status == 0)
-    ended = tries.script("follow", "two", "shelves.log", "--root", first, "--root", second)
-    tries.check("two roots begin a log", ended.status == 0 and ended.printed.decode() == f"{first}\n{second}\n")
-    tries.check("one root of two begins none", tries.script("follow", "two", "shelf.log", "--root", first).status == 1)
-    tries.check("the last shelf grows", tries.collect("--shelves", "shelved", "shelves").status == 0)
-    grown = tries.root("shelves/shelf-2.json", "s2b.index")
-    tries.check("its growth", tries.ask("grow", "s2.index", "s2b.index", "s2.growth").status == 0)
-    tries.check("a shelf is missing", tries.script("publish", "two", "s2b.index").status == 1)
-    ended = tries.script("publish", "two", "s1.index", "s2b.index", "notes-1.index", "--growth", "s2.growth")
+    first, second = tries.root("shards/shard-0.json", "s0.index"), tries.root("shards/shard-1.json", "s1.index")
+    tries.check("the first one by itself", tries.script("announce", "two", "s0.index").status == 0)
+    tries.check("its root begins a log", tries.script("follow", "two", "shards.log", "--root", first).printed.decode() == first + "\n")
+    tries.check("another one after it", tries.script("announce", "two", "s0.index", "s1.index").status == 0)
+    ended = tries.script("follow", "two", "shards.log")
+    catalog = catalog_root([first, second])
+    tries.check("the catalog is followed", ended.status == 0 and ended.printed.decode() == f"{catalog}\n{first}\n{second}\n")
+    tries.check("its root begins a log, too", tries.script("follow", "two", "catalog.log", "--root", catalog).printed == ended.printed)
+    tries.check("the root of a shard of two begins none", tries.script("follow", "two", "shard.log", "--root", second).status == 1)
+    tries.check("the last shard grows", tries.collect("--shards", "sharded", "shards").status == 0)
+    grown = tries.root("shards/shard-1.json", "s1b.index")
+    tries.check("its growth", tries.ask("grow", "s1.index", "s1b.index", "s1.growth").status == 0)
+    tries.check("a shard is missing", tries.script("announce", "two", "s1b.index").status == 1)
+    closed = tries.script("announce", "two", "s1b.index", "s1.index", "--growth", "s1.growth")
+    tries.check("a closed shard does not grow", closed.status == 1 and "shard 0 is closed" in closed.said)
+    ended = tries.script("announce", "two", "s0.index", "s1b.index", "notes-1.index", "--growth", "s1.growth")
     tries.check("one has grown, and one begins", ended.status == 0)
-    ended = tries.script("follow", "two", "shelves.log")
-    tries.check("all three are followed", ended.status == 0 and ended.printed.decode().splitlines()[:2] == [first, grown] and len(ended.printed.splitlines()) == 3)
-    tries.check("an owner takes a shelf away", tries.script("publish", "--anew", "two", "s1.index", "s2b.index").status == 0)
-    ended = tries.script("follow", "two", "shelves.log")
-    tries.check("a shelf that is gone is refused", ended.status == 1 and "shelf 3 is gone: its documents were withdrawn" in ended.said)
+    text = (tries.folder / "two" / "publication.txt").read_text()
+    site_of(tries, "uncatalogued", "two")
+    (tries.folder / "uncatalogued" / "publication.txt").write_text(re.sub("catalog: .*", f"catalog: {catalog}", text))
+    unread(tries, "a list of roots that does not give the catalog", "uncatalogued", "its roots do not give its catalog", log="shards.log")
+    ended = tries.script("follow", "two", "shards.log")
+    tries.check("all three are followed", ended.status == 0 and ended.printed.decode().splitlines()[1:3] == [first, grown] and len(ended.printed.splitlines()) == 4)
+    site_of(tries, "reopened", "two")
+    tries.check("an owner changes a closed shard", tries.script("announce", "--anew", "reopened", "s0.index", "s1.index", "notes-1.index").status == 0)
+    shutil.copy(tries.folder / "shards.log", tries.folder / "reopened.log")
+    ended = tries.script("follow", "reopened", "reopened.log")
+    tries.check("a closed shard that changed is refused", ended.status == 1 and "documents were withdrawn: shard 1" in ended.said or "shard 1 was closed" in ended.said)
+    tries.check("an owner takes a shard away", tries.script("announce", "--anew", "two", "s0.index", "s1b.index").status == 0)
+    ended = tries.script("follow", "two", "shards.log")
+    tries.check("a shard that is gone is refused", ended.status == 1 and "shard 2 is gone: its documents were withdrawn" in ended.said)
+
+
+# The worked roots of catalogs: of the texts of `trying.py`, and of these with an archive of one text without a word between them.
+CATALOGS = ((1, "85889aa12fe6cb8663e3592c416a7881d82fef1372df94d0196f48b02ada28cc"), (3, "9d9d31e9462a92d3022ee1e108f5d223338c9d32698c60cb35afb73724361a7c"))
+
+
+def catalogs(tries: Tries) -> None:
+    """The roots of worked catalogs."""
+    (tries.folder / "wordless.json").write_text('["!!"]')
+    roots = [ROOT, tries.root("wordless.json", "wordless.index"), ROOT]
+    tries.check("the roots of worked catalogs", all(catalog_root(roots[:count]) == wanted for count, wanted in CATALOGS))
 
 
 def signed(tries: Tries) -> None:
-    """The lines that `publish.py` prints sign a publication, and refuse a changed one."""
+    """The lines that `announce.py` prints sign a publication, and refuse a changed one."""
     site = tries.put("signed", {b"x": b""})
-    lines = [line.strip() for line in tries.script("publish", "signed", "notes-1.index").printed.decode().splitlines()]
+    lines = [line.strip() for line in tries.script("announce", "signed", "notes-1.index").printed.decode().splitlines()]
     home = tries.put("home", {b"x": b""})
     for tool, make in (("minisign", f"minisign -G -W -p minisign.pub -s {home}/.minisign/minisign.key"), ("ssh-keygen", "ssh-keygen -q -t ed25519 -N '' -f KEY && echo OWNER $(cat KEY.pub) >SIGNERS")):
         if shutil.which(tool) is None:
@@ -331,4 +363,4 @@ def honest(tries: Tries) -> None:
         tries.check("a refused proof is evidence", ended == Ended(1, b"refused: other-root\n", "") and tries.read("refused.proof") == tries.read("made.proof"))
 
 
-CASES = (growing, of_shelves, signed, kept, honest)
+CASES = (growing, of_shards, catalogs, signed, kept, honest)

@@ -52,8 +52,9 @@ class Tries:
         return Ended(done.returncode, done.stdout or b"", done.stderr.decode())
 
     def script(self, name: str, *words: object, given: bytes = b"", output: Optional[Path] = None) -> Ended:
-        own = ["--program", self.program] if name in ("publish", "follow", "keep") else []
-        return self.run(sys.executable, HOME / "examples" / f"{name}.py", *own, *words, given=given, output=output)
+        own = ["--program", self.program] if name in ("announce", "follow", "keep") else []
+        folder = "reader" if name in ("follow", "keep", "titles") else "owner"
+        return self.run(sys.executable, HOME / folder / f"{name}.py", *own, *words, given=given, output=output)
 
     def collect(self, *words: object, output: Optional[Path] = None) -> Ended:
         return self.script("collect", *words, output=output)

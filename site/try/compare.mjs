@@ -14,7 +14,7 @@ import { run, serve } from './program.mjs';
 import { termsOf } from './terms.mjs';
 
 const [program, seedWord, questionsWord, room, only, textsFile] = process.argv.slice(2);
-const seed = Number(seedWord), questions = Number(questionsWord), make = fileURLToPath(new URL('../make.py', import.meta.url));
+const seed = Number(seedWord), questions = Number(questionsWord), make = fileURLToPath(new URL('../../owner/folder.py', import.meta.url));
 const at = name => `${room}/${name}`;
 mkdirSync(room, { recursive: true });
 

@@ -21,7 +21,7 @@ function prepared(name, texts) {
   writeFileSync(at('texts.json'), JSON.stringify(texts));
   run(program, 'build', at('texts.json'), at('index'));
   const root = run(program, 'migrate', at('index'), at('index2')).out.trim();
-  execFileSync('python3', [fileURLToPath(new URL('../make.py', import.meta.url)), at('index2'), at('folder')]);
+  execFileSync('python3', [fileURLToPath(new URL('../../owner/folder.py', import.meta.url)), at('index2'), at('folder')]);
   return { root, name, texts };
 }
 

@@ -10,12 +10,15 @@ library are all that it needs.
 
     ./ats verify $ROOT 3 "blood count" answer.proof | titles.py mine.json
 """
+import os
 import re
 import sys
 from typing import Optional
 
-from archive_files import Fault, Words, printable, say
-from documents import items_of
+sys.dont_write_bytecode = True
+sys.path.insert(0, os.path.join(os.path.dirname(os.path.dirname(os.path.realpath(__file__))), "owner"))
+from archive_files import Fault, Words, printable, say  # noqa: E402
+from documents import items_of  # noqa: E402
 
 HELP = """In a title, characters that are not printable stand as escapes, so each row is one line.
 

@@ -1,23 +1,25 @@
 """The file by which an owner publishes roots, as docs/formats.md has it: what it says, how it is written and read, and how
-the growth between two roots is tried. `publish.py` and `follow.py` use it, and nothing is proved of it. Python 3.9 and its
+the growth between two roots is tried. `announce.py` and `follow.py` use it, and nothing is proved of it. Python 3.9 and its
 standard library are all that it needs.
 
     one = publication.read(data)
     one.number, one.roots               # 2, ("31a0..",)
     publication.written(one) == data    # a publication is spelt in one way
 """
+import hashlib
 import os
 import re
 import tempfile
 from typing import NamedTuple, Optional
 
 from archive_files import Ended, run
+from folder import root_of
 
 LATEST = "publication.txt"  # has the newest publication
 UNICODE = "18.0"            # whose tables the program has
 
 MAX_PUBLICATION = 1 << 20
-MAX_SHELVES = 1000
+MAX_SHARDS = 4096
 MAX_GROWTH = 4096
 
 NUMBER = "[1-9][0-9]{0,8}"
@@ -27,8 +29,10 @@ FORMS = {
     "date": "[0-9]{4}-[0-9]{2}-[0-9]{2}",
     "unicode": r"[0-9]{1,3}\.[0-9]{1,3}",
     "titles": "none|first-line",
-    "shelves": NUMBER,
-    "shelf": NUMBER,
+    "name": "[^\x00-\x1f\x7f-\x9f\u2028\u2029]{1,100}",
+    "shards": NUMBER,
+    "catalog": ROOT,
+    "shard": "0|" + NUMBER,
     "root": ROOT,
     "format": "[12]",
     "documents": NUMBER,
@@ -41,9 +45,9 @@ class OutOfForm(Exception):
     """The bytes are no publication; where, and what should stand there."""
 
 
-class Shelf(NamedTuple):
-    """One archive: its root, the root that the publication before has for it, and the name of the file of the growth
-    between both. A shelf that the publication before does not have has no root before it."""
+class Shard(NamedTuple):
+    """One archive of a catalog: its root, the root that the publication before has for it, and the name of the file of the growth
+    between both. A shard that the publication before does not have has no root before it."""
 
     root: str
     format: int
@@ -59,19 +63,31 @@ class Publication(NamedTuple):
     date: str
     unicode: str
     titles: str
-    shelves: tuple[Shelf, ...]
+    name: Optional[str]  # by which the owner calls the archive
+    shards: tuple[Shard, ...]
+
+    @property
+    def root(self) -> str:
+        """What readers hold: the root of the only archive, or that of the catalog."""
+        return self.roots[0] if len(self.shards) == 1 else catalog_root(self.roots)
 
     @property
     def roots(self) -> tuple[str, ...]:
-        return tuple(shelf.root for shelf in self.shelves)
+        return tuple(shard.root for shard in self.shards)
 
     @property
     def roots_before(self) -> tuple[str, ...]:
-        return tuple(shelf.before for shelf in self.shelves if shelf.before is not None)
+        return tuple(shard.before for shard in self.shards if shard.before is not None)
 
     @property
     def documents(self) -> int:
-        return sum(shelf.documents for shelf in self.shelves)
+        return sum(shard.documents for shard in self.shards)
+
+
+def catalog_root(roots: tuple[str, ...]) -> str:
+    """The root of the catalog of these archives: the digest of its header, which has the RFC 6962 root over their roots."""
+    header = b"ATSC\1" + len(roots).to_bytes(4, "big") + root_of(map(bytes.fromhex, roots))
+    return hashlib.sha256(b"\2" + header).hexdigest()
 
 
 def name_of(number: int) -> str:
@@ -81,27 +97,34 @@ def name_of(number: int) -> str:
 
 def written(one: Publication) -> bytes:
     lines = [f"publication: {one.number}", f"date: {one.date}", f"unicode: {one.unicode}", f"titles: {one.titles}",
-             f"shelves: {len(one.shelves)}"]
-    for number, shelf in enumerate(one.shelves, 1):
-        lines += [f"shelf: {number}", f"root: {shelf.root}", f"format: {shelf.format}", f"documents: {shelf.documents}",
-                  f"before: {shelf.before or 'none'}", f"growth: {shelf.growth or 'none'}"]
-    return "".join(line + "\n" for line in lines).encode("ascii")
+             *([f"name: {one.name}"] if one.name else []), f"shards: {len(one.shards)}",
+             f"catalog: {catalog_root(one.roots)}"]
+    for number, shard in enumerate(one.shards):
+        lines += [f"shard: {number}", f"root: {shard.root}", f"format: {shard.format}", f"documents: {shard.documents}",
+                  f"before: {shard.before or 'none'}", f"growth: {shard.growth or 'none'}"]
+    return "".join(line + "\n" for line in lines).encode()
 
 
 class Reader:
     """Reads the lines of publications in their order."""
 
     def __init__(self, data: bytes) -> None:
-        self.lines = data.decode("latin-1").split("\n")
+        try:
+            self.lines = data.decode("utf-8").split("\n")
+        except UnicodeDecodeError:
+            raise OutOfForm("it is not UTF-8") from None
         self.at = 0
 
     def ended(self) -> bool:
         return self.lines[self.at:] == [""]
 
+    def begins(self, word: str) -> bool:
+        return self.at < len(self.lines) and self.lines[self.at].startswith(word)
+
     def value(self, name: str, most: int = 10**9) -> str:
         line = self.lines[self.at] if self.at < len(self.lines) - 1 else ""
         found = re.fullmatch(f"{name}: ({FORMS[name]})", line)
-        if not found or FORMS[name] == NUMBER and int(found[1]) > most:
+        if not found or found[1].isdigit() and len(found[1]) < 10 and int(found[1]) > most:
             raise OutOfForm(f"line {self.at + 1} is no line `{name}: ..` in its form")
         self.at += 1
         return found[1]
@@ -113,16 +136,20 @@ class Reader:
         value = self.value(name)
         return None if value == "none" else value
 
-    def shelf(self, number: int) -> Shelf:
-        if self.number("shelf") != number:
-            raise OutOfForm(f"line {self.at} is not `shelf: {number}`")
-        return Shelf(self.value("root"), self.number("format"), self.number("documents", 1 << 16), self.optional("before"),
+    def shard(self, number: int) -> Shard:
+        if self.number("shard") != number:
+            raise OutOfForm(f"line {self.at} is not `shard: {number}`")
+        return Shard(self.value("root"), self.number("format"), self.number("documents", 1 << 16), self.optional("before"),
                      self.optional("growth"))
 
     def publication(self) -> Publication:
         number, date, unicode = self.number("publication"), self.value("date"), self.value("unicode")
-        titles, shelves = self.value("titles"), self.number("shelves", MAX_SHELVES)
-        return Publication(number, date, unicode, titles, tuple(self.shelf(each) for each in range(1, shelves + 1)))
+        titles, name = self.value("titles"), self.value("name") if self.begins("name: ") else None
+        count, catalog = self.number("shards", MAX_SHARDS), self.value("catalog")
+        one = Publication(number, date, unicode, titles, name, tuple(self.shard(each) for each in range(count)))
+        if catalog_root(one.roots) != catalog:
+            raise OutOfForm("its roots do not give its catalog")
+        return one
 
 
 def read(data: bytes) -> Publication:

@@ -12,9 +12,11 @@ import os
 import stat
 import subprocess
 import sys
-from typing import Iterator, NamedTuple
+from typing import Callable, Iterator, NamedTuple
 
-PROGRAM = os.path.join(os.path.dirname(os.path.dirname(os.path.abspath(__file__))), "ats")
+HOME = os.path.dirname(os.path.dirname(os.path.abspath(__file__)))
+BAR_AWAY = "\r\x1b[K"
+PROGRAM = os.path.join(HOME, "ats")
 
 
 class Fault(Exception):
@@ -57,7 +59,8 @@ def shown(path) -> str:
 
 
 def say(line: str) -> None:
-    print(line, file=sys.stderr, flush=True)
+    """Prints a line on standard error, in place of a bar that may stand there."""
+    print(f"{BAR_AWAY if sys.stderr.isatty() else ''}{line}", file=sys.stderr, flush=True)
 
 
 def reason(error: OSError) -> str:
@@ -121,10 +124,26 @@ def alone_in(folder: str) -> Iterator[None]:
         os.close(held)
 
 
-def run(program: str, *words: str) -> Ended:
-    """Runs the program with these words. No shell reads them."""
+SAID: set[str] = set()  # lines of the program on standard error, each of which one run of a script prints once
+
+
+def run(program: str, *words: str, tick: Callable[[], None] = lambda: None) -> Ended:
+    """Runs the program with these words, and calls `tick` each second meanwhile. No shell reads them."""
     try:
-        done = subprocess.run([program, *words], stdin=subprocess.DEVNULL, stdout=subprocess.PIPE, check=False)
+        with subprocess.Popen([program, *words], stdin=subprocess.DEVNULL, stdout=subprocess.PIPE, stderr=subprocess.PIPE) as one:
+            printed, said = waited(one, tick)
     except OSError as error:
         raise Fault(f"the program {shown(program)} cannot be run: {reason(error)}. Name it by --program", 3) from None
-    return Ended(done.returncode, printable(done.stdout.decode("utf-8", "backslashreplace").rstrip("\n")))
+    for line in said.decode("utf-8", "backslashreplace").splitlines():
+        if line not in SAID:
+            say(printable(line))
+        SAID.add(line)
+    return Ended(one.returncode, printable(printed.decode("utf-8", "backslashreplace").rstrip("\n")))
+
+
+def waited(one: subprocess.Popen, tick: Callable[[], None]) -> tuple[bytes, bytes]:
+    while True:
+        try:
+            return one.communicate(timeout=1)
+        except subprocess.TimeoutExpired:
+            tick()

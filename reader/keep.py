@@ -15,7 +15,9 @@ import struct
 import subprocess
 import sys
 
-from archive_files import PROGRAM, Fault, Words, reason, run, say, shown, store
+sys.dont_write_bytecode = True
+sys.path.insert(0, os.path.join(os.path.dirname(os.path.dirname(os.path.realpath(__file__))), "owner"))
+from archive_files import PROGRAM, Fault, Words, reason, run, say, shown, store  # noqa: E402
 
 HELP = """The words are those of `ask`, and FILE, which gets the bytes of the proof, whether or not they are accepted. It
 is replaced as a whole. Write -- before words of which one begins with a dash.

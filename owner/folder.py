@@ -1,7 +1,7 @@
 #!/usr/bin/env python3
 """Writes an archive as plain files, for readers who search it on any host that answers HTTP range requests.
 
-make.py INDEX2 FOLDER    INDEX2 is an index of format Two, which `ats migrate` writes
+folder.py INDEX2 FOLDER    INDEX2 is an index of format Two, which `ats migrate` writes
 
 Writes the folder FOLDER/ROOT-1; docs/formats.md has its bytes. Nothing in it has to be trusted. Its name has the root and the
 layout, and an archive has one such folder byte for byte. So its files never change, and caches may keep them for ever. It is
@@ -191,8 +191,8 @@ def portions(items: Iterable[Item], weight: Callable[[Item], int]) -> Iterator[l
 class Work:
     """Hashes portions, by one process or several, and shows on a terminal how far it is."""
 
-    def __init__(self, entries: int):
-        self.entries, self.done = max(2 * entries, 1), 0
+    def __init__(self, entries: int, advance: Optional[Callable[[int, int], None]]):
+        self.entries, self.done, self.advance = max(2 * entries, 1), 0, advance
         processes = os.cpu_count() or 1
         self.pool: Optional[ProcessPoolExecutor] = ProcessPoolExecutor(processes) if entries > FEW and processes > 1 else None
 
@@ -206,7 +206,9 @@ class Work:
         return found
 
     def show(self) -> None:
-        if sys.stderr.isatty():
+        if self.advance:
+            self.advance(min(self.done, self.entries), self.entries)
+        elif sys.stderr.isatty():
             print(f"\rhashed {min(self.done * 100 // self.entries, 100)} %", end="", file=sys.stderr, flush=True)
 
     def __enter__(self) -> "Work":
@@ -215,7 +217,7 @@ class Work:
     def __exit__(self, *_: object) -> None:
         if self.pool:
             self.pool.shutdown()
-        if sys.stderr.isatty():
+        if sys.stderr.isatty() and not self.advance:
             print("\r" + " " * 16 + "\r", end="", file=sys.stderr)
 
 
@@ -264,9 +266,9 @@ def page_shift(terms: list[bytes], header: bytes) -> int:
                 if front + sum(5 + len(term) for term in terms[:: 1 << shift]) <= MOST_HEAD)
 
 
-def files(index: Index) -> dict[str, bytes]:
+def files(index: Index, advance: Optional[Callable[[int, int], None]] = None) -> dict[str, bytes]:
     own_terms = terms_of_documents(index)
-    with Work(sum(len(entries) for _, entries in index.lists) // ENTRY) as work:
+    with Work(sum(len(entries) for _, entries in index.lists) // ENTRY, advance) as work:
         lists = work.each(chains, [entries for _, entries in index.lists], lambda entries: len(entries) // ENTRY)
         records = [struct.pack(">I", len(own)) + root for own, root in zip(own_terms, work.each(roots, own_terms, len))]
     terms = [LOW, *(term for term, _ in index.lists), HIGH]
@@ -334,7 +336,7 @@ def stop(status: int, why: str) -> NoReturn:
 
 def main(words: list[str]) -> None:
     if len(words) != 2:
-        stop(2, "usage: make.py INDEX2 FOLDER")
+        stop(2, "usage: folder.py INDEX2 FOLDER")
     try:
         print(make(*words))
     except Refused as why:
