@@ -103,15 +103,15 @@ def checking(house: House) -> Iterator[Figure]:
 
 def checking_in_page(house: House) -> Iterator[Figure]:
     """Many checks by the module of the page, in Node, beside those by the library."""
-    made, node = measure.HOME / "page" / "out", shutil.which("node")
+    made, node = measure.HOME / "web" / "out", shutil.which("node")
     if node is None or not (made / "page.wasm").exists():
-        print("the page is not measured: it takes Node, and what page/make.sh makes")
+        print("the page is not measured: it takes Node, and what web/make.sh makes")
         return
     reader, path = library(house), house.folder / "proof"
     for (name, algorithm, rows), one in zip(IN_PAGE, proofs(house, house.archive(house.large), IN_PAGE)):
         path.write_bytes(one.bytes)
         times = times_of(house, one)
-        words = [measure.HOME / "page" / "times.mjs", made, one.root, rows, one.query, path, times]
+        words = [measure.HOME / "web" / "times.mjs", made, one.root, rows, one.query, path, times]
         page = [float(line) for line in measure.run([node, *map(str, words)], memory=NODE).printed.splitlines()]
         native = [seconds_of(reader, one) * 1e3 for _ in range(times)]
         of = f"{name}, {algorithm}, {rows} rows, {len(one.bytes):,} bytes"

@@ -1,7 +1,8 @@
-// The checks from JavaScript in Node, by the module that page/make.sh makes. It prints what check.c prints for the same
+// The checks from JavaScript in Node, by the module that web/make.sh makes. It prints what check.c prints for the same
 // words, and ends with its status: node check.mjs page.wasm verify ROOT R QUERY PROOF
 import { readFileSync } from 'node:fs';
-import { bytesOf, checker, compile, linesOf } from '../page/check.mjs';
+import { bytesOfHex as bytesOf } from '../web/bytes.mjs';
+import { checker, compile, linesOf } from '../web/check.mjs';
 
 const [module, command, ...words] = process.argv.slice(2);
 const it = await checker(await compile(readFileSync(module)));

@@ -65,7 +65,7 @@ def by_rust(folder):
 
 
 def by_node(folder):
-    return ["node", os.path.join(HERE, "check.mjs"), os.path.join(TOP, "page", "out", "page.wasm")]
+    return ["node", os.path.join(HERE, "check.mjs"), os.path.join(TOP, "web", "out", "page.wasm")]
 
 
 def by_portable(folder):
@@ -79,7 +79,7 @@ def by_arm64(folder):
 SAMPLES = {  # a caller: what must be there, and what makes it
     "go": (["go", "pkg-config"], [], by_go),
     "rust": (["rustc"], [], by_rust),
-    "node": (["node"], ["page/out/page.wasm"], by_node),
+    "node": (["node"], ["web/out/page.wasm"], by_node),
     "portable": ([], ["reader/portable/out/check"], by_portable),
     "arm64": (["qemu-aarch64"], ["reader/portable/out/check-arm64"], by_arm64),
 }

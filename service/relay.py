@@ -19,7 +19,8 @@ REQUEST = range(6, 4096 + 1)      # bytes of the body of a request
 LONGEST_REPLY = (1 << 26) + 1     # bytes of the body of a reply
 OUT_OF_MEMORY = b"\1\6"           # the body of a reply of a process that is out of memory
 CONNECTIONS = 1000                # at the same time
-MEMORY = 1 << 30                  # bytes of replies that wait for their readers
+MEMORY = 1 << 30                  # bytes of replies that come or wait for their readers; at least one whole reply
+PIECE = 1 << 16                   # bytes that are read or written at a time
 
 ARRIVING = 10    # seconds in which a request must be whole
 PATIENCE = 20    # seconds in which a question is given to a process; `ask` waits 30
@@ -49,18 +50,36 @@ def process_of(word: str) -> Process:
     return Process(host.strip("[]"), int(port))
 
 
-async def read_frame(link: asyncio.StreamReader, bodies: range) -> bytes:
-    """One whole frame. Ends with ValueError if its length is none of these."""
+async def read_frame(link: asyncio.StreamReader, bodies: range) -> bytearray:
+    """One whole frame, in one copy. Ends with ValueError if its length is none of these."""
     head = await link.readexactly(4)
     length = int.from_bytes(head, "big")
     if length not in bodies:
         raise ValueError(f"a frame of {length} bytes")
-    return head + await link.readexactly(length)
+    frame = bytearray(4 + length)
+    frame[:4], came = head, 4
+    while came < len(frame):
+        piece = await link.read(min(PIECE, len(frame) - came))
+        if not piece:
+            raise EOFError(f"{came} bytes of a frame of {len(frame)}")
+        frame[came:came + len(piece)] = piece
+        came += len(piece)
+    return frame
 
 
-async def reply_of(process: Process, request: bytes) -> bytes:
+async def write_frame(link: asyncio.StreamWriter, frame: bytearray) -> None:
+    """Writes as fast as the reader takes it, so that the link keeps no copy of what waits."""
+    link.transport.set_write_buffer_limits(0)
+    with memoryview(frame) as bytes_:
+        for start in range(0, len(frame), PIECE):
+            link.write(bytes_[start:start + PIECE])
+            await link.drain()
+    link.write_eof()
+
+
+async def reply_of(process: Process, request: bytearray) -> bytearray:
     """What the process replies to the request, which ends its connection."""
-    link, out = await asyncio.open_connection(*process, limit=1 << 20)
+    link, out = await asyncio.open_connection(*process, limit=PIECE)
     try:
         out.write(request)
         out.write_eof()
@@ -72,16 +91,37 @@ async def reply_of(process: Process, request: bytes) -> bytes:
     return reply
 
 
+class Memory:
+    """The bytes of replies that are held. They are taken before a process is asked, when nobody knows how many will come."""
+
+    def __init__(self) -> None:
+        self.held = 0
+        self.given = asyncio.Condition()
+
+    async def take(self) -> int:
+        """Room for any reply, once it is there."""
+        async with self.given:
+            await self.given.wait_for(lambda: self.held + LONGEST_REPLY + 4 <= MEMORY)
+            self.held += LONGEST_REPLY + 4
+        return LONGEST_REPLY + 4
+
+    async def give(self, size: int) -> None:
+        async with self.given:
+            self.held -= size
+            self.given.notify_all()
+
+
 class Relay:
-    """The processes that are free, and the bytes of replies that are held."""
+    """The processes that are free, and the memory for their replies."""
 
     def __init__(self, processes: "list[Process]"):
         self.free: "asyncio.Queue[Process]" = asyncio.Queue()
         for process in processes:
             self.free.put_nowait(process)
-        self.connections = self.held = 0
+        self.connections = 0
+        self.memory = Memory()
 
-    async def asked_once(self, request: bytes) -> bytes:
+    async def asked_once(self, request: bytearray) -> bytearray:
         """The reply of the next process that is free. One that fails rests."""
         process = await self.free.get()
         try:
@@ -96,7 +136,7 @@ class Relay:
         self.free.put_nowait(process)
         return reply
 
-    async def asked(self, request: bytes) -> bytes:
+    async def asked(self, request: bytearray) -> bytearray:
         """The reply of the first process that has one."""
         while True:
             with contextlib.suppress(Failed):
@@ -104,17 +144,14 @@ class Relay:
 
     async def serve(self, reader: asyncio.StreamReader, writer: asyncio.StreamWriter) -> None:
         request = await asyncio.wait_for(read_frame(reader, REQUEST), ARRIVING)
-        if self.held > MEMORY:
-            return
-        reply = await asyncio.wait_for(self.asked(request), PATIENCE + ANSWERING)
-        self.held += len(reply)
+        taken = await asyncio.wait_for(self.memory.take(), PATIENCE)
         try:
-            writer.transport.set_write_buffer_limits(0)
-            writer.write(reply)
-            await asyncio.wait_for(writer.drain(), TAKING)
-            writer.write_eof()
+            reply = await asyncio.wait_for(self.asked(request), PATIENCE + ANSWERING)
+            await self.memory.give(taken - len(reply))
+            taken = len(reply)
+            await asyncio.wait_for(write_frame(writer, reply), TAKING)
         finally:
-            self.held -= len(reply)
+            await self.memory.give(taken)
 
     async def connected(self, reader: asyncio.StreamReader, writer: asyncio.StreamWriter) -> None:
         """Serves one reader, whatever it does."""

@@ -17,6 +17,7 @@ import resource
 import shutil
 import signal
 import socket
+import socketserver
 import struct
 import subprocess
 import sys
@@ -33,7 +34,7 @@ from trying import Differs, Skipped, corpora, expect, free_port
 
 HOME = Path(__file__).resolve().parent.parent
 SERVICE = HOME / "service"
-sys.path.append(str(HOME / "site" / "try"))
+sys.path.append(str(HOME / "web" / "try"))
 from nginx import Nginx  # noqa: E402
 
 READERS = 200
@@ -82,8 +83,7 @@ def unit() -> dict[str, str]:
     return dict(line.split("=", 1) for line in lines if "=" in line and not line.startswith("#"))
 
 
-UNITS = {"ats@7071.service": "/usr/bin/ats", "ats-relay@7069.service": "/usr/lib/ats/relay.py",
-         "ats-gateway@8080.service": "/usr/bin/python3"}
+UNITS = {"ats@7071.service": "/usr/bin/ats", "ats-relay@7069.service": "/usr/lib/ats/relay.py"}
 
 
 def units_are_valid(folder: Path) -> None:
@@ -403,6 +403,49 @@ def whole_connections_end(_: House) -> None:
         raise Differs("the reply came whole")
 
 
+SHARED, SLOW_READERS = 1 << 28, 40  # bytes of replies that the relay may hold; readers who take nothing
+
+
+@contextlib.contextmanager
+def many_long_replies() -> Iterator[int]:
+    """The port of a stand-in for a process that gives every connection a long reply."""
+    class Door(socketserver.ThreadingTCPServer):
+        daemon_threads, request_queue_size = True, SLOW_READERS
+
+    class Answer(socketserver.BaseRequestHandler):
+        def handle(self) -> None:
+            with contextlib.suppress(OSError):
+                self.request.recv(1 << 16)
+                self.request.sendall(struct.pack(">I", 1 << 25) + bytes(1 << 25))
+
+    with Door(("127.0.0.1", 0), Answer) as door:
+        threading.Thread(target=door.serve_forever, daemon=True).start()
+        yield door.server_address[1]
+        door.shutdown()
+
+
+def most_memory(port: int) -> int:
+    """The most bytes that the relay at a port has held: the one of our children with the port among its words."""
+    for each in Path("/proc").glob("[0-9]*/cmdline"):
+        with contextlib.suppress(OSError):
+            if f"127.0.0.1:{port}".encode() in each.read_bytes().split(b"\0")[4:6]:
+                said = (each.parent / "status").read_text(encoding="ascii")
+                return int(re.search(r"VmHWM:\s*([0-9]+) kB", said)[1]) * 1024  # type: ignore[index]
+    raise Differs("the relay is not among the processes")
+
+
+def relay_keeps_its_memory(_: House) -> None:
+    """Readers who take nothing hold no more than the replies for which there is room, in one copy each."""
+    with many_long_replies() as process, relay(8 * [process], MEMORY=SHARED) as port, contextlib.ExitStack() as stack:
+        for number in range(SLOW_READERS):
+            stack.enter_context(connected(port, number)).sendall(request(ROWS, QUERY))
+        time.sleep(8)
+        most = most_memory(port)
+    print(f"    {most / corpora.MIB:.0f} MiB of {SHARED / corpora.MIB:.0f} MiB for replies")
+    if most > SHARED + 64 * corpora.MIB:
+        raise Differs(f"the relay has held {most} bytes")
+
+
 def is_refused(stack: contextlib.ExitStack, port: int) -> bool:
     """A connection from the one address is ended at once. If not, it stays open as long as the stack does."""
     try:
@@ -520,6 +563,23 @@ def caches_keep_what_never_changes(folder: Path) -> None:
             expect(f"status, caches and other sites of {name}", headers(f"{host.base}/{name}"), (status, caches, "*"))
 
 
+PAGE = {"index.html": "text/html; charset=utf-8", "page.css": "text/css; charset=utf-8", "page.wasm": "application/wasm",
+        "page.mjs": "application/javascript; charset=utf-8", "publication.txt": "application/octet-stream"}
+
+
+def page_is_served_as_a_page(folder: Path) -> None:
+    """The page lies beside the folder of an archive. Browsers start its scripts and its module only by their types."""
+    need("nginx")
+    shelf = folder / "page"
+    shelf.mkdir()
+    for name in PAGE:
+        (shelf / name).write_bytes(bytes(2000))
+    with Nginx(shelf, folder / "nginx-page") as host:
+        for name, kind in {**PAGE, "": PAGE["index.html"]}.items():
+            with urllib.request.urlopen(f"{host.base}/{name}", timeout=LIMIT) as reply:
+                expect(f"type of {name or 'the folder'}", reply.headers["Content-Type"], kind)
+
+
 def headers(address: str) -> "tuple[int, Optional[str], Optional[str]]":
     """The status of a request for ten bytes, how long it is kept, and which sites may read it."""
     try:
@@ -579,9 +639,11 @@ def measure(program: str, folder: Path, mib: int) -> None:
 def tries(house: House) -> list[tuple[str, Callable[[], None]]]:
     on_files = [("the units are valid", units_are_valid), ("the units are closed", units_are_closed),
                 ("the web server's configuration is valid", web_server_is_valid),
-                ("caches keep what never changes", caches_keep_what_never_changes)]
+                ("caches keep what never changes", caches_keep_what_never_changes),
+                ("the page is served as a page", page_is_served_as_a_page)]
     on_processes = [("200 readers at once", many_readers), ("peers that trickle", peers_that_trickle),
                     ("a whole connection ends", whole_connections_end), ("one address is bounded", one_address_is_bounded),
+                    ("the relay keeps its memory", relay_keeps_its_memory),
                     ("a killed process", killed_process), ("another index", changed_index),
                     ("a process without memory for its index", no_memory_to_load),
                     ("a process without memory for an answer", no_memory_to_answer)]

@@ -2,14 +2,14 @@
 # Makes the library as C for any compiler, from the module of the page: wasm2c (Debian: wabt) writes that module as C, and
 # glue.c has the calls of ats_reader.h over it. Then it builds the caller check.c with it, here, and for arm64 if there is
 # a compiler. reader/play.py plays the vectors with both. README.md says what is trusted.
-# usage: make.sh [MODULE [FOLDER]]    the module is page/out/page.wasm if it is not given. For a FOLDER it builds nothing
+# usage: make.sh [MODULE [FOLDER]]    the module is web/out/page.wasm if it is not given. For a FOLDER it builds nothing
 set -eu
 here=$(dirname -- "$(readlink -f -- "$0")")
-module=${1:-$here/../../page/out/page.wasm}
+module=${1:-$here/../../web/out/page.wasm}
 runtime=/usr/share/wabt/wasm2c
 out=${2:-$here/out}
 
-[ -e "$module" ] || { echo "make.sh: there is no $module: page/make.sh makes it" >&2; exit 1; }
+[ -e "$module" ] || { echo "make.sh: there is no $module: web/make.sh makes it" >&2; exit 1; }
 command -v wasm2c >/dev/null || { echo 'make.sh: there is no wasm2c: install wabt' >&2; exit 1; }
 rm -rf "$out" && mkdir -p "$out"
 wasm2c -n ats "$module" -o "$out/ats.c"

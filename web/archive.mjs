@@ -1,0 +1,285 @@
+// The folder of an archive (docs/formats.md), read by ranges. What is handed out is the archive's own by its root, or
+// two strings have one SHA-256 digest. Only the places of pages, lists and texts are the host's word, and a wrong place
+// gives bytes that do not fit.
+
+import { Fields, compareBytes, hex, same } from './bytes.mjs';
+import { hostFault } from './fault.mjs';
+import { InvertedList, sizeOfList } from './list.mjs';
+import { DIGEST, sha256 } from './sha256.mjs';
+import { KnownTree, besides, leafDigest } from './tree.mjs';
+
+const LAYOUT = 1, HEADER = 105, HEADER_TAG = 4, MOST_HEAD = 2 ** 16;
+const LEAST_SHIFT = 6, MOST_SHIFT = 18, GROUP_SHIFT = 2;
+const MOST_TEXT = 2 ** 20, MOST_TERM = 64, MOST_DOCUMENTS = 2 ** 16, MOST_LEAVES = 2 ** 24 + 2;
+
+/**
+ * @typedef {{ position: number, term: Uint8Array, bytes: Uint8Array }} Leaf
+ * @typedef {Leaf & { documents: number, root: Uint8Array, list: number }} DictionaryLeaf `list` is where its list
+ *   begins
+ * @typedef {{ first: Uint8Array, start: number, end: number }} Page its first term, and where it is
+ * @typedef {{ record: Uint8Array, from: number, to: number }} Member of a group
+ */
+
+/**
+ * The leaf of a term, or the leaf below and the one above, as far as they are among these leaves.
+ * @template {Leaf} Some
+ * @param {Some[]} leaves
+ * @param {Uint8Array} term
+ */
+export function neighbours(leaves, term) {
+  let low = 0, high = leaves.length;
+  while (low < high) {
+    const middle = low + high >> 1;
+    if (compareBytes(leaves[middle].term, term) <= 0) low = middle + 1;
+    else high = middle;
+  }
+  const below = leaves[low - 1];
+  return below && compareBytes(below.term, term) === 0 ? [below] : [below, leaves[low]];
+}
+
+/** One archive, by its root. Several of them, as shards, are read side by side by one of these each. */
+export class Archive {
+  #reader; #folder; #header; #pageShift;
+  /** @type {Page[]} */
+  #pages = [];
+  /** @type {Map<string, Promise<any>>} */
+  #kept = new Map();
+
+  /**
+   * @param {import('./question.mjs').Reader} reader
+   * @param {Uint8Array} root
+   * @returns {Promise<Archive>}
+   */
+  static open(reader, root) {
+    const folder = `${hex(root)}-${LAYOUT}`;
+    return reader.bound(
+      `${folder}/head`, 0, MOST_HEAD, bytes => new Archive(reader, folder, new Fields('head', bytes), root));
+  }
+
+  /**
+   * @param {import('./question.mjs').Reader} reader
+   * @param {string} folder
+   * @param {Fields} fields of the head
+   * @param {Uint8Array} root
+   */
+  constructor(reader, folder, fields, root) {
+    this.#reader = reader;
+    this.#folder = folder;
+    const [magic, layout] = [String.fromCharCode(...fields.take(4)), fields.u8()];
+    if (magic !== 'ATSH' || layout !== LAYOUT) throw hostFault('wrong', 'head', 'another layout');
+    this.#pageShift = fields.u8();
+    this.#header = fields.take(HEADER).slice();
+    if (!same(sha256(HEADER_TAG, this.#header), root)) throw hostFault('wrong', 'head', 'another root');
+    const header = new Fields('head', this.#header);
+    header.u8();
+    this.documents = header.u32();
+    this.leaves = header.u32();
+    const [dictionary, documents, texts] = header.digests(3);
+    const isWithin = this.documents >= 1 && this.documents <= MOST_DOCUMENTS && this.leaves >= 2
+      && this.leaves <= MOST_LEAVES && this.#pageShift >= LEAST_SHIFT && this.#pageShift <= MOST_SHIFT;
+    if (!isWithin) throw hostFault('wrong', 'head', 'a number out of range');
+    this.dictionary = new KnownTree(this.leaves, dictionary);
+    this.documentsTree = new KnownTree(this.documents, documents);
+    this.textsTree = new KnownTree(this.documents, texts);
+    this.#readSparseIndex(fields);
+  }
+
+  get header() { return this.#header; }
+
+  /**
+   * The bytes from `from` to `to` of a file, all of them, and what `bind` makes of them.
+   * @template Made
+   * @param {string} name
+   * @param {number} from
+   * @param {number} to
+   * @param {(bytes: Uint8Array) => Made} bind
+   * @returns {Promise<Made>}
+   */
+  async range(name, from, to, bind) {
+    if (to === from) return bind(new Uint8Array(0));
+    return this.#reader.bound(`${this.#folder}/${name}`, from, to, bytes => {
+      if (bytes.length < to - from) throw hostFault('cut', name, `ends at ${from + bytes.length}, before ${to}`);
+      return bind(bytes);
+    });
+  }
+
+  /** @param {Fields} fields */
+  #readSparseIndex(fields) {
+    for (let start = 0, i = 0; i << this.#pageShift < this.leaves; i++) {
+      const size = fields.u32(), first = fields.take(fields.u8()).slice();
+      this.#pages.push({ first, start, end: start + size });
+      start += size;
+    }
+    fields.end();
+  }
+
+  /**
+   * What `make` promises for this key, made once for a question.
+   * @template Made
+   * @param {string} key
+   * @param {() => Promise<Made>} make
+   * @returns {Promise<Made>}
+   */
+  #once(key, make) {
+    const kept = this.#kept.get(key) ?? make();
+    this.#kept.set(key, kept);
+    return kept;
+  }
+
+  // --- the dictionary ---
+
+  /**
+   * The leaves of the page with this number.
+   * @param {number} number
+   */
+  #page(number) {
+    return this.#once(`page ${number}`, async () => {
+      const { start, end } = this.#pages[number], position = number << this.#pageShift;
+      const count = Math.min(1 << this.#pageShift, this.leaves - position);
+      const most = 4 + count * (1 + MOST_TERM + 4 + DIGEST) + besides(this.leaves, position, count).length * DIGEST;
+      if (end - start > most) throw hostFault('long', 'head', `page ${number}`);
+      return this.range(
+        'dictionary', start, end, bytes => this.#readPage(new Fields('dictionary', bytes), position, count));
+    });
+  }
+
+  /**
+   * @param {Fields} fields
+   * @param {number} position
+   * @param {number} count
+   */
+  #readPage(fields, position, count) {
+    /** @type {DictionaryLeaf[]} */
+    const leaves = [];
+    for (let list = fields.u32(), i = 0; i < count; i++) {
+      const leaf = dictionaryLeaf(fields, position + i, list);
+      leaves.push(leaf);
+      list += sizeOfList(leaf.documents);
+    }
+    const path = fields.digests(besides(this.leaves, position, count).length);
+    fields.end();
+    const isOwn = this.dictionary.add(position, leaves.map(leaf => leafDigest(leaf.bytes)), path);
+    if (!isOwn) throw hostFault('wrong', 'dictionary', `page ${position >> this.#pageShift}`);
+    return leaves;
+  }
+
+  /**
+   * The leaves that show a term: its own, or its two neighbours.
+   * @param {Uint8Array} term
+   */
+  async find(term) {
+    let low = 0, high = this.#pages.length;
+    while (high - low > 1) {
+      const middle = low + high >> 1;
+      if (compareBytes(this.#pages[middle].first, term) <= 0) low = middle;
+      else high = middle;
+    }
+    const page = await this.#page(low), found = neighbours(page, term);
+    if (found.length === 1) return found;
+    const [below, above] = found, isLast = low + 1 === this.#pages.length;
+    const next = above ?? (isLast ? undefined : (await this.#page(low + 1))[0]);
+    // The first terms of pages are the host's word, so the term may be on another page.
+    if (!below || !next || compareBytes(next.term, term) <= 0) throw hostFault('wrong', 'head', 'terms out of order');
+    return [below, next];
+  }
+
+  /** @param {DictionaryLeaf} leaf */
+  list(leaf) {
+    return new InvertedList(this, leaf);
+  }
+
+  // --- documents ---
+
+  /**
+   * A group of documents: for each where it begins and ends in its file, and its record, of `size` bytes.
+   * @param {KnownTree} tree
+   * @param {string} name
+   * @param {number} number
+   * @param {number} size
+   * @param {(record: Uint8Array) => Uint8Array} digestOf
+   * @returns {Promise<Member[]>}
+   */
+  #group(tree, name, number, size, digestOf) {
+    return this.#once(`${name} ${number}`, () => {
+      const members = 1 << GROUP_SHIFT, position = number << GROUP_SHIFT,
+            count = Math.min(members, this.documents - position);
+      const depth = 32 - Math.clz32(this.documents - 1 >>> GROUP_SHIFT),
+            room = 4 * (members + 1) + size * members + DIGEST * depth;
+      return this.range(name, number * room, (number + 1) * room, bytes => {
+        const fields = new Fields(name, bytes);
+        const begins = Array.from({ length: members + 1 }, () => fields.u32());
+        const records = Array.from({ length: members }, () => fields.take(size)).slice(0, count);
+        const path = fields.digests(besides(this.documents, position, count).length);
+        if (!tree.add(position, records.map(digestOf), path)) throw hostFault('wrong', name, `group ${number}`);
+        return records.map((record, i) => ({ record, from: begins[i], to: begins[i + 1] }));
+      });
+    });
+  }
+
+  /**
+   * @param {KnownTree} tree
+   * @param {string} name
+   * @param {number} doc
+   * @param {number} size
+   * @param {(record: Uint8Array) => Uint8Array} digestOf
+   */
+  async #member(tree, name, doc, size, digestOf) {
+    const group = await this.#group(tree, name, doc >> GROUP_SHIFT, size, digestOf);
+    return group[doc & (1 << GROUP_SHIFT) - 1];
+  }
+
+  /**
+   * The bytes of a document's text.
+   * @param {number} doc
+   */
+  async text(doc) {
+    const { record, from, to } = await this.#member(this.textsTree, 'texts-tree', doc, DIGEST, digest => digest);
+    if (to < from || to - from > MOST_TEXT) throw hostFault('long', 'texts-tree', `text ${doc}`);
+    return this.range('texts', from, to, text => {
+      if (!same(leafDigest(text), record)) throw hostFault('wrong', 'texts', `text ${doc}`);
+      return text;
+    });
+  }
+
+  /**
+   * The leaf of a document, the leaves of its terms, and their tree.
+   * @param {number} doc
+   */
+  async termsOf(doc) {
+    const { record, from, to } = await this.#member(this.documentsTree, 'documents-tree', doc, 4 + DIGEST, leafDigest);
+    const count = new Fields('documents-tree', record).u32(), root = record.subarray(4);
+    if (to < from || to - from > count * (1 + MOST_TERM + 2))
+      throw hostFault('long', 'documents-tree', `terms of ${doc}`);
+    return this.range('terms', from, to, bytes => {
+      const fields = new Fields('terms', bytes);
+      const leaves = Array.from({ length: count }, (_, position) => termsLeaf(fields, position));
+      fields.end();
+      const tree = new KnownTree(count, root);
+      const isOwn = tree.add(0, leaves.map(leaf => leafDigest(leaf.bytes)), []);
+      if (!isOwn) throw hostFault('wrong', 'terms', `document ${doc}`);
+      return { record, leaves, tree };
+    });
+  }
+}
+
+/**
+ * @param {Fields} fields
+ * @param {number} position
+ * @param {number} list
+ * @returns {DictionaryLeaf}
+ */
+function dictionaryLeaf(fields, position, list) {
+  const from = fields.at, term = fields.take(fields.u8()), documents = fields.u32(), root = fields.take(DIGEST);
+  return { position, term, documents, root, list, bytes: fields.bytes.subarray(from, fields.at) };
+}
+
+/**
+ * @param {Fields} fields
+ * @param {number} position
+ * @returns {Leaf}
+ */
+function termsLeaf(fields, position) {
+  const from = fields.at, term = fields.take(fields.u8());
+  fields.take(2);
+  return { position, term, bytes: fields.bytes.subarray(from, fields.at) };
+}

@@ -1,0 +1,143 @@
+// Keeps ranges that were bound, so that they are not read again: in memory, and where a browser has it in IndexedDB,
+// which outlives the page. Not every browser caches ranges, and the Cache API takes no reply of status 206. What is
+// kept is bound again when it is used.
+
+const MOST_MEMORY = 2 ** 24, MOST_STORED = 2 ** 26; // bytes
+const NAME = 'ats-ranges', RANGES = 'ranges', SIZES = 'sizes', WAIT_MS = 50;
+
+/**
+ * @typedef {object} Cache
+ * @property {(key: string) => Promise<Uint8Array | undefined>} get
+ * @property {(key: string, bytes: Uint8Array) => void} put
+ * @property {(folder: string) => Promise<void>} forget what lies in the folders whose names begin like this
+ * @property {() => Promise<void>} close
+ */
+
+export class MemoryCache {
+  #most; #size = 0;
+  /** @type {Map<string, Uint8Array>} */
+  #ranges = new Map();
+
+  /** @param {number} [most] bytes */
+  constructor(most = MOST_MEMORY) {
+    this.#most = most;
+  }
+
+  /** @param {string} key */
+  async get(key) { return this.#ranges.get(key); }
+
+  /**
+   * @param {string} key
+   * @param {Uint8Array} bytes
+   */
+  put(key, bytes) {
+    if (this.#size + bytes.length > this.#most) { this.#ranges.clear(); this.#size = 0; }
+    if (bytes.length > this.#most) return;
+    this.#ranges.set(key, bytes);
+    this.#size += bytes.length;
+  }
+
+  /** @param {string} folder */
+  async forget(folder) {
+    for (const key of this.#ranges.keys()) if (key.startsWith(folder)) this.#ranges.delete(key);
+  }
+
+  async close() {}
+}
+
+/**
+ * @template Made
+ * @param {IDBRequest<Made>} request
+ * @returns {Promise<Made>}
+ */
+const settled = request => new Promise((done, failed) => {
+  request.onsuccess = () => done(request.result);
+  const fail = () => failed(request.error ?? new Error('the store is in use'));
+  request.onerror = fail;
+  Object.assign(request, { onblocked: fail });
+});
+
+/** In front of the store is a memory. A store that fails keeps nothing, and is no fault. */
+export class StoredCache {
+  #store; #most;
+  #memory = new MemoryCache();
+  /** @type {Map<string, Uint8Array>} */
+  #coming = new Map();
+  /** @type {ReturnType<typeof setTimeout> | undefined} */
+  #timer;
+
+  /**
+   * @param {IDBDatabase} store
+   * @param {number} most bytes
+   */
+  constructor(store, most) {
+    this.#store = store;
+    this.#most = most;
+    store.onversionchange = () => store.close();
+  }
+
+  static async open(most = MOST_STORED) {
+    try {
+      const opening = indexedDB.open(NAME, 1);
+      opening.onupgradeneeded = () => [RANGES, SIZES].forEach(name => opening.result.createObjectStore(name));
+      return new StoredCache(await settled(opening), most);
+    } catch {
+      return new MemoryCache();
+    }
+  }
+
+  /**
+   * @param {string} key
+   * @returns {Promise<Uint8Array | undefined>}
+   */
+  async get(key) {
+    const near = await this.#memory.get(key);
+    if (near) return near;
+    try {
+      return await settled(this.#store.transaction(RANGES).objectStore(RANGES).get(key));
+    } catch {
+      return undefined;
+    }
+  }
+
+  /**
+   * What comes within a moment is stored at once.
+   * @param {string} key
+   * @param {Uint8Array} bytes
+   */
+  put(key, bytes) {
+    this.#memory.put(key, bytes);
+    if (this.#coming.size === 0) this.#timer = setTimeout(() => this.#storeAll(), WAIT_MS);
+    this.#coming.set(key, bytes);
+  }
+
+  async #storeAll() {
+    const coming = [...this.#coming], added = coming.reduce((sum, [, bytes]) => sum + bytes.length, 0);
+    this.#coming.clear();
+    if (added > this.#most) return;
+    try {
+      const both = this.#store.transaction([RANGES, SIZES], 'readwrite');
+      const ranges = both.objectStore(RANGES), sizes = both.objectStore(SIZES),
+            before = await settled(sizes.get('all')) ?? 0;
+      if (before + added > this.#most) ranges.clear();
+      for (const [key, bytes] of coming) ranges.put(bytes, key);
+      await settled(sizes.put(before + added > this.#most ? added : before + added, 'all'));
+    } catch { /* then it is read again */ }
+  }
+
+  /** @param {string} folder */
+  async forget(folder) {
+    await this.#memory.forget(folder);
+    for (const key of this.#coming.keys()) if (key.startsWith(folder)) this.#coming.delete(key);
+    try {
+      const ranges = this.#store.transaction(RANGES, 'readwrite').objectStore(RANGES);
+      await settled(ranges.delete(IDBKeyRange.bound(folder, `${folder}\uffff`)));
+    } catch { /* then a later question forgets it */ }
+  }
+
+  async close() {
+    clearTimeout(this.#timer);
+    await this.#storeAll();
+    this.#store.close();
+  }
+}

@@ -1,0 +1,117 @@
+// Calls to a worker, from the page. Not proved.
+
+import { Fault } from './fault.mjs';
+
+// Browsers compare no worker's file with a digest. So the page fetches the file of a worker by its pin, and makes the
+// worker of a blob of just these bytes.
+const policy = /** @type {any} */ (globalThis).trustedTypes?.createPolicy('worker', { createScriptURL: it => it });
+
+/**
+ * A function that makes workers of this file, one after another.
+ * @param {Blob} file
+ * @returns {() => Worker}
+ */
+export function workersOf(file) {
+  const place = URL.createObjectURL(new Blob([file], { type: 'text/javascript' }));
+  return () => new Worker(policy ? policy.createScriptURL(place) : place, { type: 'module' });
+}
+
+/**
+ * @typedef {{ signal?: AbortSignal, progress?: (it: any) => void }} How
+ * @typedef {{ message: object, done: (got: any) => void, failed: (why: any) => void, progress: (it: any) => void }}
+ *   Waiting
+ */
+
+/** A worker and the calls that wait for it. The worker's side is in answering.mjs. */
+export class Calls {
+  #make; #start; #stops; #last = 0;
+  /** @type {Worker | undefined} */
+  #worker;
+  /** @type {Map<number, Waiting>} */
+  #waiting = new Map();
+  /** @type {Fault | undefined} */
+  #closed;
+
+  /**
+   * @param {() => Worker} make
+   * @param {object} start what the worker gets first
+   * @param {boolean} stops whether a call can be stopped in the worker; if not, a stop ends the worker, and another
+   *   one gets the
+   *   calls that are left
+   */
+  constructor(make, start, stops) {
+    this.#make = make;
+    this.#start = start;
+    this.#stops = stops;
+  }
+
+  /**
+   * @param {string} call
+   * @param {unknown} words
+   * @param {How} [how]
+   * @returns {Promise<any>}
+   */
+  async call(call, words, how = {}) {
+    const { signal, progress = () => {} } = how;
+    if (signal?.aborted) throw signal.reason;
+    if (this.#closed) throw this.#closed;
+    const id = ++this.#last, stop = () => this.#stop(id, signal?.reason);
+    signal?.addEventListener('abort', stop);
+    try {
+      return await new Promise((done, failed) => {
+        const message = { id, call, words };
+        this.#waiting.set(id, { message, done, failed, progress });
+        if (this.#worker) this.#worker.postMessage(message);
+        else this.#begin();
+      });
+    } finally {
+      signal?.removeEventListener('abort', stop);
+    }
+  }
+
+  close() {
+    this.#closed = new Fault('link', 'closed');
+    this.#end(this.#closed);
+  }
+
+  /** Makes a worker, which gets all calls that wait. */
+  #begin() {
+    this.#worker = this.#make();
+    this.#worker.addEventListener('message', ({ data }) => this.#came(data));
+    this.#worker.addEventListener('error', () => this.#end(new Fault('stopped', 'the worker ended')));
+    this.#worker.postMessage({ start: this.#start });
+    this.#waiting.forEach(({ message }) => this.#worker?.postMessage(message));
+  }
+
+  #came({ id, got, fault, progress }) {
+    const waiting = this.#waiting.get(id);
+    if (progress) return waiting?.progress(progress);
+    this.#waiting.delete(id);
+    if (fault) waiting?.failed(new Fault(fault.word, fault.line));
+    else waiting?.done(got);
+  }
+
+  /**
+   * @param {number} id
+   * @param {unknown} why
+   */
+  #stop(id, why) {
+    const waiting = this.#waiting.get(id);
+    if (!waiting) return;
+    this.#waiting.delete(id);
+    waiting.failed(why);
+    if (this.#stops) return this.#worker?.postMessage({ stop: id });
+    this.#worker?.terminate();
+    this.#worker = undefined;
+    if (this.#waiting.size) this.#begin();
+  }
+
+  /** @param {Fault} why */
+  #end(why) {
+    this.#worker?.terminate();
+    this.#worker = undefined;
+    const waiting = [...this.#waiting.values()];
+    this.#waiting.clear();
+    waiting.forEach(({ failed }) => failed(why));
+  }
+}

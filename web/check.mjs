@@ -1,0 +1,170 @@
+// The glue: passes bytes to page.wasm, whose calls are those of reader/ats_reader.h, and reads the verdict. Not proved.
+// A page and Node share it.
+
+/**
+ * What every call answers.
+ * @typedef {object} Verdict
+ * @property {number} status 0 accepted; 1 refused; 2 too little room, or a query that is not UTF-8; 4 out of the
+ *   limits; 6 out of
+ *   memory
+ * @property {number} reason 0, or the number of the fault, as reader/ats_reader.h lists them
+ * @property {number} count how many rows, documents or terms are shown
+ * @property {bigint} first
+ * @property {bigint} second
+ * @property {string} line what the command prints if the status is not 0; else empty
+ * @property {number} ms how long the call took
+ *
+ * @typedef {{ doc: bigint, lower: bigint, upper: bigint }} Row
+ * @typedef {{ term: Uint8Array, weight: number }} Term
+ *
+ * A root is 32 bytes. A RangeError says that one is not, or that memory ran out: throw the checker away then.
+ * @typedef {object} Checker
+ * @property {(proof: Uint8Array, root: Uint8Array, query: string, r: number) => Verdict & { rows: Row[] }} check
+ *   what `verify` checks. Its rows are best first
+ * @property {(proof: Uint8Array, root: Uint8Array, query: string) => Verdict & { docs: number[] }} both
+ *   what `both` checks. Its documents rise
+ * @property {(file: Uint8Array, root: Uint8Array, doc: number) => Verdict & { text: Uint8Array | undefined }} text
+ *   what `fetch` checks. `text` is a view of the file's own bytes, which may be no UTF-8; undefined unless accepted
+ * @property {(file: Uint8Array, oldRoot: Uint8Array, newRoot: Uint8Array) =>
+ *   Verdict & { grown: { old: number, new: number } | undefined }} growth
+ *   what `growth` checks. `grown` has both numbers of documents; undefined unless accepted
+ * @property {(query: string) => Verdict & { terms: Term[] }} query
+ *   the terms of a query in the order of their bytes, each once, with how often the query has it
+ * @property {() => { calls: number, unicode: string }} version
+ *   the version of the calls, and that of Unicode by which words are found
+ */
+
+const ROW = 24, TERM = 72, WORD = 64, VERDICT = 32, LINE = 128, ROOT = 32;
+const MOST_ROWS = 1000, MOST_DOCS = 65536, MOST_TERMS = 32;
+
+/**
+ * Compiles the module.
+ * @param {BufferSource} bytes
+ */
+export const compile = bytes => WebAssembly.compile(bytes);
+
+/**
+ * A checker with a memory of its own. After an exception throw it away: its memory is in no known state.
+ * @param {WebAssembly.Module} module
+ * @returns {Promise<Checker>}
+ */
+export async function checker(module) {
+  const wasm = /** @type {any} */ ((await WebAssembly.instantiate(module, {})).exports);
+
+  // Numbers of the module are in the memory, least byte first.
+  const view = (at, size) => new DataView(wasm.memory.buffer, Number(at), size);
+  const bytesAt = (at, size) => new Uint8Array(wasm.memory.buffer, Number(at), size);
+
+  // Calls `work` with a way to put bytes into the memory and one to make room there, and gives both back at its end.
+  const lent = work => {
+    /** @type {bigint[]} */
+    const places = [];
+    const room = size => {
+      const at = wasm.page_room(BigInt(size));
+      if (at === 0n) throw new RangeError('out of memory');
+      places.push(at);
+      return at;
+    };
+    const put = bytes => {
+      const at = room(bytes.length);
+      bytesAt(at, bytes.length).set(bytes);
+      return [at, BigInt(bytes.length)];
+    };
+    const got = work(put, room);
+    places.forEach(wasm.page_give);
+    return got;
+  };
+
+  const rootAt = (put, root) => {
+    if (root.length !== ROOT) throw new RangeError('a root has 32 bytes');
+    return put(root)[0];
+  };
+  const queryAt = (put, query) => put(new TextEncoder().encode(query));
+  // A number that is longer would be cut to another one.
+  const number = n => {
+    if (!Number.isInteger(n) || n < 0 || n >= 2 ** 32) throw new RangeError('no whole number below 2^32');
+    return n;
+  };
+
+  const lineOf = (verdict, room) => {
+    const [text, size] = [room(LINE), room(8)];
+    const status = wasm.ats_line(verdict, text, BigInt(LINE), size);
+    return status === 0 ? new TextDecoder().decode(bytesAt(text, Number(view(size, 8).getBigUint64(0, true))))
+                        : 'memory';
+  };
+
+  // One call: its verdict, its line, and how long it took. What `shown` reads is read only after status 0.
+  const verdictOf = (room, call, shown) => {
+    const at = room(VERDICT), start = performance.now();
+    call(at);
+    const ms = performance.now() - start, it = view(at, VERDICT);
+    const got = {
+      status: it.getUint32(0, true), reason: it.getUint32(4, true), count: Number(it.getBigUint64(8, true)),
+      first: it.getBigUint64(16, true), second: it.getBigUint64(24, true), line: lineOf(at, room), ms,
+    };
+    return { ...got, ...shown(got.status === 0 ? got : { count: 0 }) };
+  };
+  const list = (at, count, size, read) =>
+    Array.from({ length: count }, (_, i) => read(view(at + BigInt(i * size), size), i));
+
+  return {
+    check: (proof, root, query, r) => lent((put, room) => {
+      // Wanting more rows than the check allows is its own fault to find.
+      const most = Math.min(number(r), MOST_ROWS), rows = room(most * ROW);
+      const places = [...put(proof), rootAt(put, root), ...queryAt(put, query), r, rows, BigInt(most)];
+      return verdictOf(room, at => wasm.ats_check(...places, at), ({ count }) => ({
+        rows: list(rows, count, ROW, it => ({
+          doc: it.getBigUint64(0, true), lower: it.getBigUint64(8, true), upper: it.getBigUint64(16, true),
+        })),
+      }));
+    }),
+
+    both: (proof, root, query) => lent((put, room) => {
+      const docs = room(MOST_DOCS * 4);
+      const places = [...put(proof), rootAt(put, root), ...queryAt(put, query), docs, BigInt(MOST_DOCS)];
+      return verdictOf(room, at => wasm.ats_both(...places, at), ({ count }) => ({
+        docs: list(docs, count, 4, it => it.getUint32(0, true)),
+      }));
+    }),
+
+    text: (file, root, doc) => lent((put, room) => {
+      const places = [...put(file), rootAt(put, root), number(doc)];
+      return verdictOf(room, at => wasm.ats_text(...places, at), ({ first, second }) => ({
+        text: first === undefined ? undefined : file.subarray(Number(first), Number(first + second)),
+      }));
+    }),
+
+    growth: (file, oldRoot, newRoot) => lent((put, room) => {
+      const places = [...put(file), rootAt(put, oldRoot), rootAt(put, newRoot)];
+      return verdictOf(room, at => wasm.ats_growth(...places, at), ({ first, second }) => ({
+        grown: first === undefined ? undefined : { old: Number(first), new: Number(second) },
+      }));
+    }),
+
+    query: query => lent((put, room) => {
+      const terms = room(MOST_TERMS * TERM);
+      const places = [...queryAt(put, query), terms, BigInt(MOST_TERMS)];
+      return verdictOf(room, at => wasm.ats_query(...places, at), ({ count }) => ({
+        terms: list(terms, count, TERM, (it, i) => ({
+          term: bytesAt(terms + BigInt(i * TERM), it.getUint32(WORD, true)).slice(),
+          weight: it.getUint32(WORD + 4, true),
+        })),
+      }));
+    }),
+
+    version: () => lent((put, room) => {
+      const at = room(12), calls = wasm.ats_version(at), it = view(at, 12);
+      return { calls, unicode: [0, 4, 8].map(place => it.getUint32(place, true)).join('.') };
+    }),
+  };
+}
+
+/**
+ * The lines that the command of a check prints for its verdict; those of `fetch` are the text, and not among them.
+ * @param {Verdict & { rows?: Row[], docs?: number[], grown?: { old: number, new: number } }} verdict
+ */
+export function linesOf({ status, line, rows = [], docs = [], grown }) {
+  if (status !== 0) return [line];
+  if (grown) return [`grown ${grown.old} ${grown.new}`];
+  return [...rows.map(({ doc, lower, upper }, i) => `${i + 1} ${doc} ${lower} ${upper}`), ...docs.map(String)];
+}

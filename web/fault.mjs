@@ -1,0 +1,32 @@
+// Why there is no answer. Not proved.
+
+/**
+ * `word` is one of: link (cannot be reached), silent, missing (no such file), busy, cut (ended too soon), long (more
+ * than may be), wrong (other bytes than the archive has), input (the question breaks a limit), memory, stopped (the
+ * check ended), blocked (the page may not ask this host). `line` is ASCII and names the place. `said` is a sentence for
+ * a person, if the word is not enough.
+ */
+export class Fault extends Error {
+  /**
+   * @param {string} word
+   * @param {string} line
+   * @param {{ said?: string, cause?: unknown }} [more]
+   */
+  constructor(word, line, more = {}) {
+    super(`${word}: ${line}`);
+    this.name = 'Fault';
+    this.word = word;
+    this.line = line;
+    this.said = more.said ?? '';
+    this.cause = more.cause;
+  }
+}
+
+/**
+ * A host failed over a file of the archive.
+ * @param {string} word
+ * @param {string} file
+ * @param {string} what
+ * @param {unknown} [cause]
+ */
+export const hostFault = (word, file, what, cause) => new Fault(word, `host: ${file}: ${what}`, { cause });

@@ -1,0 +1,634 @@
+// The page: takes a root and a question, asks, has the reply checked, and says what came of it. Not proved.
+
+import { Asking } from './asking.mjs';
+import { bytesOfHex, hex } from './bytes.mjs';
+import { Calls, workersOf } from './calls.mjs';
+import { Fault } from './fault.mjs';
+import { badSign, readQuery } from './query.mjs';
+import { Results } from './results.mjs';
+import { keep, kept, leftOn, originOf, relation } from './roots.mjs';
+import { citeOf, linkOf, nameOf, opened, saved } from './saved.mjs';
+import {
+  afterRefusal, checkedOf, countingOf, dayOf, documents, duration, faultWords, grewOf, grownOf, headingOf, listed,
+  number, quoted, reasonOf,
+} from './sentences.mjs';
+import { Source } from './source.mjs';
+import { $, announce, on, progress, say, show, sizeOf, write } from './view.mjs';
+import { Whole } from './whole.mjs';
+
+const A_PAGE = 10, MOST_ROWS = 1000;
+
+/**
+ * @typedef {import('./asking.mjs').Answer} Answer
+ * @typedef {import('./asking.mjs').Question} Question
+ *
+ * @typedef {object} State all that changes on this page, beside what it shows
+ * @property {string} root under which answers are checked, or what else the field has
+ * @property {string} how the root came: page, kept, link, typed, file or grown; or empty
+ * @property {string} offered a newer root, which the person may take
+ * @property {string} name of the archive, by its owner's word
+ * @property {boolean} titles whether first lines are titles, by the owner's word
+ * @property {Calls | undefined} checks
+ * @property {Source | undefined} source
+ * @property {AbortController | undefined} stopper of what is being done
+ * @property {Answer | undefined} answer whatever the verdict is
+ * @property {number} shown how many results
+ * @property {number | undefined} doc whose text is open, or to be opened
+ * @property {string | undefined} host in the address as the page was opened
+ */
+
+/** @type {State} */
+const state = {
+  root: '', how: '', offered: '', name: '', titles: false, checks: undefined, source: undefined, stopper: undefined,
+  answer: undefined, shown: A_PAGE, doc: undefined, host: undefined,
+};
+const results =
+  new Results($('list'), doc => `#${linkOf(/** @type {Answer} */ (state.answer), { host: state.host, doc })}`);
+const whole = new Whole();
+
+const linked = () => new URLSearchParams(location.hash.slice(1));
+const builtIn = name => /** @type {HTMLMetaElement} */ (document.querySelector(`meta[name=${name}]`)).content;
+const isRoot = text => /^[0-9a-f]{64}$/.test(text);
+const asking = () => new Asking(/** @type {Calls} */ (state.checks), /** @type {Source} */ (state.source));
+
+// ---- the root
+
+/** Takes another root: what was asked or shown under the one before goes. */
+function useRoot(root, how) {
+  if (root === state.root && how === state.how) return;
+  state.stopper?.abort(new DOMException('Your root has changed, so the question was stopped.', 'AbortError'));
+  Object.assign(state, { root, how, offered: '', name: builtIn('archive-name'), titles: false });
+  clear();
+  $('root').value = root;
+  ['newer', 'linked'].forEach(id => show(id, false));
+  rootShown();
+}
+
+function rootShown() {
+  const { root, how, name } = state, good = isRoot(root);
+  $('root').removeAttribute('aria-invalid');
+  write('origin', originOf(root, how));
+  write('root-short', good ? `${root.slice(0, 8)}…` : '');
+  show('keep', good && root !== kept().root);
+  write('name', name || 'Search an archive');
+  show('name-hint', name !== '');
+}
+
+function rootTyped() {
+  const text = $('root').value, own = $('root').selectionStart;
+  useRoot(text.replace(/\s/g, '').toLowerCase(), 'typed');
+  $('root').value = text;
+  $('root').setSelectionRange(own, own);
+}
+
+function keepRoot() {
+  if (!keep(state.root, false)) return say('This browser keeps nothing for this page.');
+  rootShown();
+  say('The root is kept.');
+}
+
+/**
+ * The address gets the root, and the question if there is one.
+ * @param {Question} [question]
+ */
+function addressed(question) {
+  const hash = `#${linkOf(question ?? { root: state.root }, { host: state.host })}`;
+  if (hash !== location.hash) history.pushState(null, '', hash);
+}
+
+// ---- a newer root
+
+/** Asks for the newest root, and says what it is to the person's. It changes nothing by itself. */
+async function lookForNewer() {
+  const { root, source, checks } = state;
+  if (!isRoot(root) || !checks || !source) return;
+  const newest = it => it ? source.newest({ root: it }).catch(() => undefined) : undefined, { before } = kept();
+  const offered = await newest(root) ?? await newest(before[before.length - 1]?.root);
+  if (!offered || root !== state.root) return;
+  Object.assign(state, { name: builtIn('archive-name') || offered.name, titles: offered.titles });
+  rootShown();
+  const found = await relation(source, checks, root, offered.root).catch(() => undefined);
+  if (found && root === state.root) newerShown(found, offered.root);
+}
+
+const STAY = 'Stay with your root.';
+/** @type {Record<string, (found: any) => string[]>} */
+const NEWER = {
+  grown: ({ before, after }) => [grewOf(before, after), grownOf(before),
+    'This does not show whether what was added is the owner’s. Compare the new root with the one that the owner '
+      + 'published, and use it '
+      + 'if they are the same.'],
+  older: ({ day }) => ['The host is behind', `It offers a root that you left on ${day}, when the archive had grown.`,
+    `${STAY} Ask again later, or ask another host.`],
+  other: () => ['The host offers another archive',
+    'Nothing shows that it grew from yours: texts may have been withdrawn or changed.',
+    `${STAY} If the owner published the other one, ask the owner why it did not grow from yours.`],
+  refused: ({ got }) => ['The growth that the host offers is refused', reasonOf(got, 'growth'),
+    `${STAY} If the owner published the other one, ask the owner for a growth that leads there.`],
+};
+
+/**
+ * @param {import('./roots.mjs').Relation} found
+ * @param {string} offered
+ */
+function newerShown(found, offered) {
+  show('newer', found.kind !== 'same');
+  if (found.kind === 'same') return;
+  const isGood = found.kind === 'grown', [heading, said, what] = NEWER[found.kind](found);
+  state.offered = offered;
+  $('newer').className = isGood ? 'good' : 'bad';
+  write('newer-verdict', `${isGood ? '✓' : '✗'} ${heading}`);
+  write('newer-said', said);
+  write('newer-line', found.got?.line ?? '');
+  show('newer-line-place', found.kind === 'refused');
+  write('newer-root', offered);
+  write('newer-do', what);
+  show('newer-tools', isGood);
+  write('heard', `${heading}. ${said} ${what}`);
+}
+
+function takeNewer() {
+  const { offered, root } = state;
+  if (root === kept().root) keep(offered, true);
+  useRoot(offered, 'grown');
+  addressed();
+  say('Your root is now the new one.');
+  $('query').focus();
+  lookForNewer();
+}
+
+// ---- what the page shows
+
+function clear() {
+  Object.assign(state, { answer: undefined, shown: A_PAGE });
+  results.clear();
+  whole.close();
+  ['answer', 'how', 'lied', 'copied-place', 'more'].forEach(id => show(id, false));
+  ['done', 'cited'].forEach(id => write(id, ''));
+}
+
+function busy(isSo) {
+  ['go', 'open'].forEach(id => { $(id).disabled = isSo || !state.checks; });
+  $('more').disabled = isSo;
+  show('stop', isSo);
+  $('bar').classList.toggle('idle', !isSo);
+  if (!isSo) { $('bar').value = 0; write('came', ''); }
+}
+
+function invalid(id, text) {
+  $(id).setAttribute('aria-invalid', 'true');
+  if (id === 'root') $('root-place').open = true;
+  say(text);
+  $(id).focus();
+}
+
+/** What came of a question. Only a line of the proved module is called the check's. */
+function verdict(isGood, heading, said, { line = '', says = 'The check’s line:', other = false } = {}) {
+  $('answer').className = isGood ? 'good' : 'bad';
+  write('verdict', `${isGood ? '✓' : '✗'} ${heading}`);
+  write('said', said);
+  write('line-says', says);
+  write('line', line);
+  $('notes').replaceChildren();
+  show('line-place', line !== '');
+  show('other-place', other);
+  show('answer', true);
+  announce(`${heading}. ${said}`);
+}
+
+const failed = fault => {
+  const why = fault instanceof Fault ? fault : new Fault('stopped', `${fault}`);
+  const isChecked = why.word !== 'memory' && why.word !== 'stopped';
+  verdict(
+    false, isChecked ? 'No answer' : 'Not checked', faultWords(why), { line: why.line, says: 'What the page saw:' });
+};
+
+/** @param {Answer} answer */
+function refused({ got, way, from, root }) {
+  const isRefused = got.status === 1, heading = isRefused ? 'Refused: do not use this answer' : 'Not checked';
+  const said = reasonOf(got, way) + (isRefused ? ` ${afterRefusal(from)}` : '');
+  verdict(false, heading, said, { line: got.line, other: from !== undefined && from.root !== root });
+  write('counting', countingOf(got));
+}
+
+/** @param {Answer} answer */
+function notesOf({ words, having, passed, phrases, found, docs }) {
+  const absent = words.all.filter((_, i) => having[i] === 0), notes = [];
+  if (absent.length && words.all.length > 1) notes.push(`No document has ${listed(absent)}.`);
+  if (phrases.length > words.together.length) passed = [...passed, '“ ”'];
+  if (passed.length)
+    notes.push(`Passed over: ${listed(passed)}. ${passed.length === 1 ? 'It means' : 'They mean'} nothing here.`);
+  if (!found) return notes;
+  const them = listed(words.together.map(it => it.join(' '))), looked = found.read - found.failed;
+  if (docs.length) {
+    const count = number(found.docs.length);
+    notes.push(`This page read ${number(looked)} of their texts, each checked, and found ${them} in ${count}.`);
+  }
+  if (found.failed) notes.push(`${number(found.failed)} texts did not come or were refused, and may have it too.`);
+  if (found.stopped) notes.push(`${found.stopped} Later documents may have it too. Add a rarer word.`);
+  return notes;
+}
+
+/** @param {Answer} answer */
+function accepted(answer) {
+  const { way, r, all, words, found, docs, root } = answer, count = docs.length;
+  verdict(true, headingOf({ way, found: count, r, all, words: words.all.length }), '');
+  const notes = notesOf(answer);
+  $('notes').replaceChildren(...notes.map(note => Object.assign(document.createElement('li'), { textContent: note })));
+  if (notes.length) announce(`${$('verdict').textContent.slice(2)}. ${notes.join(' ')}`);
+  write('checked', checkedOf({ way, found: count, r, root }));
+  write('counting', '');
+  write('facts', factsOf(answer));
+  ['how', 'tools'].forEach(id => show(id, true));
+  listShown(answer);
+  if (found?.docs.length === 0 && count) $('verdict').textContent += ', none with them together';
+  if (state.doc !== undefined) openText(state.doc);
+}
+
+/** @param {Answer} answer */
+function factsOf({ query, proof, got, from, ms, words }) {
+  const came = from
+    ? `From the file ${quoted(from.name)}, which says that it was saved on ${quoted(from.date.slice(0, 10))}.`
+    : `The proof came in ${duration(ms)}.`;
+  return `Query ${quoted(query)}. Words searched for: ${listed(words.all)}. ${came} It has ${sizeOf(proof.length)} and `
+    + `was checked in ${duration(got.ms)}.`;
+}
+
+/** @param {Answer} answer */
+const resultsOf = ({ found, docs }) => found ? found.docs : docs;
+
+/** @param {Answer} answer */
+function listShown(answer) {
+  results.show(asking(), answer, resultsOf(answer).slice(0, state.shown));
+  moreShown(answer);
+}
+
+/** @param {Answer} answer */
+function moreShown(answer) {
+  const { way, r, docs, from } = answer, canAsk = way === 'best' && docs.length === r && r < MOST_ROWS && !from;
+  show('more', canAsk || resultsOf(answer).length > state.shown);
+}
+
+// ---- one question
+
+/** The question of the form, or undefined after saying what is wrong with it. */
+function question() {
+  ['root', 'query'].forEach(id => $(id).removeAttribute('aria-invalid'));
+  const typed = $('query').value, bad = badSign(typed), { sent, phrases, passed } = readQuery(typed);
+  if (!isRoot(state.root)) {
+    return invalid('root', `The root has 64 digits from 0 to 9 and a to f. Here are ${state.root.length} characters.`);
+  }
+  if (bad) return invalid('query', `The query has the sign ${bad}, which no command can carry. Take it out.`);
+  const way = $('all').checked || phrases.some(it => /\S\s+\S/.test(it)) ? 'all' : 'best';
+  return /** @type {Question} */ (
+    { way, root: state.root, typed, query: sent, r: way === 'best' ? A_PAGE : 0, phrases, passed });
+}
+
+/**
+ * @param {Question} asked
+ * @param {AbortSignal} signal
+ * @param {Map<number, Uint8Array>} [texts] that are there already
+ */
+async function answerTo(asked, signal, texts = new Map()) {
+  const it = asking(), limit = await it.beyondLimits(asked, signal);
+  signal.throwIfAborted();
+  if (limit) return verdict(false, 'Not asked', reasonOf(limit, asked.way), { line: limit.line });
+  say('Searching …');
+  const words = await it.words(asked, signal), way = words.together.length ? 'all' : asked.way;
+  const answer = await it.answer({ ...asked, way, r: way === 'all' ? 0 : asked.r }, words, { signal, progress });
+  await judged({ ...answer, texts }, signal);
+}
+
+/**
+ * @param {Answer} answer
+ * @param {AbortSignal} signal
+ */
+async function judged(answer, signal) {
+  const { got, words, docs, from } = answer;
+  if (got.status === 0 && words.together.length && !from) {
+    say(`Reading the texts of ${documents(docs.length)} …`);
+    answer.found = await asking().find(answer, { signal, progress });
+  }
+  signal.throwIfAborted();
+  answer.titles ||= state.titles;
+  state.answer = answer;
+  if (got.status === 0) accepted(answer);
+  else refused(answer);
+}
+
+/** Does something that takes time, with a way to stop it. */
+async function working(act) {
+  if (!state.checks || !$('stop').hidden) return say('Wait until the page is ready, and try again.');
+  const stopper = new AbortController();
+  state.stopper = stopper;
+  busy(true);
+  try {
+    await act(stopper.signal);
+  } catch (fault) {
+    if (stopper.signal.aborted) say(stopper.signal.reason.message);
+    else await failedToAnswer(fault);
+  } finally {
+    busy(false);
+  }
+}
+
+/** A host without the folder of this root may have that of a newer one. */
+async function failedToAnswer(fault) {
+  failed(fault);
+  if (!(fault instanceof Fault) || fault.word !== 'missing' || !fault.line.includes('head')) return;
+  await lookForNewer();
+  if (!$('newer').hidden) write('said', 'This host has no answers under your root. Above is what it offers.');
+}
+
+function submitted(event) {
+  event.preventDefault();
+  clear();
+  const asked = question();
+  if (!asked) return;
+  state.doc = linked().get('query') === asked.typed ? docOf(linked()) : undefined;
+  addressed(asked);
+  working(signal => answerTo(asked, signal));
+}
+
+/** Ten more results: of the best, these are a question of its own. */
+function more() {
+  const answer = /** @type {Answer} */ (state.answer);
+  state.shown += A_PAGE;
+  const next = state.shown - A_PAGE, focused = () => $('list').querySelectorAll('.open')[next]?.focus();
+  if (answer.way === 'all' || answer.docs.length > next) { listShown(answer); return focused(); }
+  const { root, way, typed, query, phrases, passed } = answer, r = Math.min(state.shown, MOST_ROWS);
+  return working(signal => answerTo({ root, way, typed, query, r, phrases, passed }, signal, answer.texts))
+    .then(focused);
+}
+
+// ---- a whole text
+
+const docOf = link => /^(0|[1-9][0-9]{0,4})$/.test(link.get('doc') ?? '') ? Number(link.get('doc')) : undefined;
+
+async function openText(doc) {
+  const answer = /** @type {Answer} */ (state.answer), { signal } = /** @type {AbortController} */ (state.stopper);
+  state.doc = doc;
+  try {
+    const it = asking(), [{ got, read }, short] = await Promise.all([
+      it.read(answer, 'whole', doc, [answer.words.marked], signal),
+      it.read(answer, 'excerpt', doc, [answer.words.marked, answer.titles], signal)
+    ]);
+    if (state.answer !== answer || state.doc !== doc) return;
+    if (!read) return verdict(false, 'This text is refused', reasonOf(got, 'text'), { line: got.line });
+    ['answer', 'list', 'more', 'how'].forEach(id => show(id, false));
+    $('back').href = `#${linkOf(answer, { host: state.host })}`;
+    whole.open(short.read.title, read);
+    write('whole-said', `Document ${doc}, all of its ${number(read.text.length)} characters. ✓ text checked.`);
+    write('cited', '');
+  } catch (fault) {
+    if (!signal.aborted) failed(fault);
+  }
+}
+
+function closeText() {
+  const { doc, answer } = state;
+  state.doc = undefined;
+  whole.close();
+  if (!answer) return;
+  ['answer', 'list', 'how'].forEach(id => show(id, true));
+  moreShown(answer);
+  $('list').querySelector(`[data-doc="${doc}"] .open`)?.focus();
+}
+
+// ---- evidence
+
+async function save() {
+  const answer = /** @type {Answer} */ (state.answer);
+  write('done', 'Getting the texts on this page …');
+  await results.whole();
+  if (answer !== state.answer) return;
+  const now = new Date(), name = nameOf(answer, dayOf(now)), count = answer.texts.size;
+  const place = URL.createObjectURL(saved(answer, now));
+  Object.assign(document.createElement('a'), { href: place, download: name }).click();
+  setTimeout(() => URL.revokeObjectURL(place), 60000);
+  write('done', `Saved as ${name}, with the texts of ${documents(count)}.`);
+  $('done').scrollIntoView({ block: 'nearest' });
+}
+
+function openFile(it) {
+  return working(async signal => {
+    clear();
+    const file = await opened(it);
+    if (!file) {
+      return verdict(false, 'Not a saved proof',
+        'This file is none that the page saved, or it is damaged. Get it again from whoever ' +
+          'sent it to you.');
+    }
+    if (!isRoot(state.root)) openedUnder(file.root);
+    await judgeFile({ ...file, from: { name: it.name, date: file.date, root: file.root } }, signal);
+  });
+}
+
+/** Takes the root of a file, while that file is being opened. */
+function openedUnder(root) {
+  Object.assign(state, { root, how: 'file' });
+  $('root').value = root;
+  rootShown();
+}
+
+async function judgeFile(file, signal) {
+  const { way, query } = file, root = leftOn(file.root) ? file.root : state.root, asked = { ...file, root };
+  $(way === 'all' ? 'all' : 'best').checked = true;
+  $('query').value = query;
+  const it = asking(), limit = await it.beyondLimits(asked, signal);
+  if (limit) return verdict(false, 'Not checked', reasonOf(limit, way), { line: limit.line });
+  await judged(await it.judged({ ...asked, words: await it.words(asked, signal), ms: 0 }, signal), signal);
+}
+
+function checkUnderOther() {
+  const { from, proof, texts, way, typed, query, r, phrases, passed, titles } = /** @type {Answer} */ (state.answer);
+  const root = /** @type {import('./asking.mjs').SavedFrom} */ (from).root;
+  useRoot(root, 'file');
+  working(signal => judgeFile({ root, from, proof, texts, way, typed, query, r, phrases, passed, titles }, signal));
+}
+
+async function copy(text, place, said) {
+  try {
+    await navigator.clipboard.writeText(text);
+    show('copied-place', false);
+    write(place, said);
+  } catch {
+    $('copied').value = text;
+    show('copied-place', true);
+    $('copied').focus();
+    $('copied').select();
+  }
+}
+
+function copyLink() {
+  const answer = /** @type {Answer} */ (state.answer), link = linkOf(answer, { host: state.host });
+  return copy(`${location.href.split('#')[0]}#${link}`, 'done',
+    'The link is copied. It has the root, the query and how you asked.');
+}
+
+function cite(docs, place) {
+  const answer = /** @type {Answer} */ (state.answer), day = dayOf(new Date());
+  const lines = docs.map(doc => citeOf(answer, doc, day)).join('\n');
+  return copy(
+    lines, place, `Copied: ${docs.length === 1 ? 'a line that names' : 'lines that name'} document, root and query.`);
+}
+
+
+/** Turns one bit of the proof, as a host that lies could have done, and shows what the check says. */
+async function lie() {
+  const answer = /** @type {Answer} */ (state.answer), { proof, way } = answer, changed = proof.slice();
+  const at = Number(crypto.getRandomValues(new BigUint64Array(1))[0] % BigInt(8 * proof.length));
+  changed[at >> 3] ^= 1 << (at & 7);
+  const got = await asking().checked(answer, changed), isGood = got.status === 0;
+  if (answer !== state.answer) return;
+  $('lied').className = isGood ? 'good' : 'bad';
+  write('lied-what', `The page turned one bit of the proof, as a host that lies could have done: `
+    + `bit ${at & 7} of byte ${at >> 3}, of ${proof.length} bytes (both count from 0).`);
+  write('lied-verdict', isGood ? '✓ The changed proof is no lie' : '✗ The lie is refused');
+  write('lied-said',
+    isGood ? 'The check accepts it: its answer is right as well. Documents may tie, for example. Try again.'
+           : reasonOf(got, way));
+  write('lied-line', got.line);
+  show('lied-place', !isGood);
+  show('lied', true);
+  $('lied').scrollIntoView({ block: 'center' });
+  $('lied-verdict').focus({ preventScroll: true });
+}
+
+// ---- the start
+
+const NO_FILE = name => `The file ${name} did not come, or is not the page’s own. Load or get the page again.`;
+const NO_BROWSER = 'This browser cannot run the check: it needs WebAssembly.';
+
+// The digests of the files beside this one, which the browser compares as they are fetched.
+const pins = JSON.parse($('pins').textContent);
+
+async function pinned(name) {
+  const failing = () => { throw new Error(NO_FILE(name)); };
+  const reply = await fetch(name, { integrity: pins[name], credentials: 'omit' }).catch(failing);
+  return reply.blob().catch(failing);
+}
+
+/** The hosts of a link, or the one that this page came from. */
+const basesOf = word => word ? word.split(/\s+/).filter(Boolean) : [new URL('.', location.href).href];
+
+/** The first of these hosts that the page's own policy does not let it ask. */
+function blocked(bases) {
+  const policy = /** @type {HTMLMetaElement} */ (document.querySelector('meta[http-equiv]')).content;
+  const allowed = [location.origin, .../connect-src 'self'([^;]*)/.exec(policy)?.[1].split(' ') ?? []];
+  return bases.find(base => !/^https?:\/\/[^/]/.test(base) || !allowed.includes(new URL(base).origin));
+}
+
+/** @param {() => Worker} make */
+function sourceOf(make) {
+  const bases = basesOf(state.host), bad = blocked(bases);
+  if (bad)
+    throw new Error(`The link names the host ${bad}, which this page may not ask. ${faultWords({ word: 'blocked' })}`);
+  return new Source(make, bases);
+}
+
+/**
+ * What the link has goes into the form. A root that was typed, kept or built in stays until the person takes that of a
+ * link.
+ */
+function readLink() {
+  const link = linked(), root = link.get('root') ?? '', query = link.get('query');
+  show('linked', false);
+  if (root && root !== state.root) {
+    if (!isRoot(state.root) || state.how === 'link') useRoot(root, 'link');
+    else { write('linked-root', root); show('linked', true); }
+  }
+  if (query === null) return 'Ready.';
+  if (badSign(query))
+    return `The link has a query with the sign ${badSign(query)}, which no command can carry. It was not taken.`;
+  $('query').value = query;
+  $(link.get('way') === 'all' ? 'all' : 'best').checked = true;
+  return 'The link has a question. Press Search.';
+}
+
+function useLinked() {
+  useRoot($('linked-root').textContent, 'link');
+  say(readLink());
+  lookForNewer();
+}
+
+/** Another address: of a text of this answer, of the answer, or of something else. */
+function moved() {
+  const link = linked(), { answer, root } = state, doc = docOf(link);
+  const isOwn = answer && link.get('root') === root && link.get('query') === answer.typed;
+  if (isOwn && doc !== undefined) return openText(doc);
+  if (isOwn) return closeText();
+  if ((link.get('host') ?? undefined) !== state.host) return location.reload();
+  clear();
+  say(readLink());
+  lookForNewer();
+}
+
+async function start() {
+  write('module', hex(Uint8Array.from(atob(pins['page.wasm'].replace(/^.*?-/, '')), it => it.charCodeAt(0))));
+  const own = kept().root, built = builtIn('archive-root');
+  state.host = linked().get('host') ?? undefined;
+  useRoot(built || own || $('root').value, built ? 'page' : own ? 'kept' : $('root').value ? 'typed' : '');
+  rootShown();
+  const ready = readLink();
+  $('root-place').open = !isRoot(state.root);
+  const [module, checking, assembling] = await Promise.all(['page.wasm', 'checking.mjs', 'assembling.mjs'].map(pinned));
+  const compiled = await WebAssembly.compile(await module.arrayBuffer()).catch(() => { throw new Error(NO_BROWSER); });
+  const checks = new Calls(workersOf(checking), { module: compiled }, false);
+  await checks.call('version', []).catch(() => { throw new Error(NO_BROWSER); });
+  state.source = sourceOf(workersOf(assembling));
+  state.checks = checks;
+  return ready;
+}
+
+function dropped(event) {
+  event.preventDefault();
+  const [file] = event.dataTransfer.files;
+  if (file) openFile(file);
+}
+
+on('form', 'submit', submitted);
+on('root', 'input', rootTyped);
+on('root', 'change', lookForNewer);
+on('keep', 'click', keepRoot);
+on('use-linked', 'click', useLinked);
+on('keep-own', 'click', () => {
+  show('linked', false);
+  addressed();
+  say('Your root stays as it is.');
+  $('query').focus();
+});
+on('take', 'click', takeNewer);
+on('stay', 'click', () => { show('newer', false); say('Your root stays as it is.'); $('query').focus(); });
+on('stop', 'click', () => state.stopper?.abort(new DOMException('Stopped.', 'AbortError')));
+on('more', 'click', more);
+on('earlier', 'click', () => whole.turn(-1));
+on('later', 'click', () => whole.turn(1));
+on('open', 'click', () => $('file').click());
+on('file', 'change', ({ target }) => {
+  if (target.files[0])
+    openFile(target.files[0]).finally(() => {
+      target.value = '';
+    });
+});
+on('other', 'click', checkUnderOther);
+on('save', 'click', () => save().catch(failed));
+on('link', 'click', copyLink);
+on('cite', 'click', () => cite([state.doc], 'cited'));
+on('cite-all', 'click', () => cite([...$('list').children].map(it => Number(it.dataset.doc)), 'done'));
+on('lie', 'click', () => lie().catch(failed));
+addEventListener('dragover', event => event.preventDefault());
+addEventListener('drop', dropped);
+addEventListener('hashchange', moved);
+busy(true);
+show('stop', false);
+start().then(
+  ready => {
+    say(ready);
+    busy(false);
+    lookForNewer();
+  },
+  fault => {
+    say(fault.message);
+    show('stop', false);
+  });

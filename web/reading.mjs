@@ -1,0 +1,307 @@
+// Reads texts by the words of the proved module: where the query's words stand, which part of a text to show first, and
+// whether words stand together. Runs in the worker of the checks. Not proved.
+
+/**
+ * @typedef {{ term: string, from: number, to: number }} Word a word of a text, and where it stands, in UTF-16 units
+ * @typedef {{ which: number, from: number, to: number }} Hit which of the wanted sequences, and where it stands
+ * @typedef {{ words: Map<string, number>, count: number }} Bag words with how often each is there, and how many
+ *   there are
+ */
+
+// No word goes over one of these, and a text that is cut there has the words of its parts.
+const BETWEEN_SPACES = /[^ \t\n\v\f\r]+/g;
+// No word ends between two of these.
+const PLAIN = /^[A-Za-z0-9]{2}$/;
+// Signs that belong to what is before them. Where one is, a cut may need more than its neighbourhood.
+const JOINING = /[\p{M}\p{Cf}\p{Regional_Indicator}]/u;
+const EDGES = /^[^\p{L}\p{N}\p{M}_]+|[^\p{L}\p{N}\p{M}_]+$/gu;
+
+const LONG = 128, NEAR = 16; // the longest piece that is not halved; what is looked at on each side of a cut
+const MOST_KEPT = 2 ** 16, MOST_HITS = 10000;
+const NO_TERM = 5, MEMORY = 34; // reasons of the module
+const EXCERPT = 320, LEAD = 100, TITLE = 120;
+
+/** Reads by `query`, which has the words of a short text, in the order of their bytes. */
+export class Reading {
+  #query;
+  /** @type {Map<string, Word[]>} */
+  #kept = new Map();
+
+  /** @param {import('./check.mjs').Checker['query']} query */
+  constructor(query) {
+    this.#query = query;
+  }
+
+  /**
+   * The words of a text in their order.
+   * @param {string} text
+   */
+  sequence(text) {
+    return this.#wordsOf(text).map(({ term }) => term);
+  }
+
+  /**
+   * Whether each of these sequences stands in the text.
+   * @param {string} text
+   * @param {string[][]} sequences
+   */
+  holds(text, sequences) {
+    return new Set(this.#hits(text, sequences).map(({ which }) => which)).size === sequences.length;
+  }
+
+  /**
+   * A title, and the part of the text with most different sequences.
+   * @param {string} text
+   * @param {string[][]} sequences
+   * @param {boolean} titles whether first lines are titles
+   */
+  excerpt(text, sequences, titles) {
+    const { title, start } = titled(text, titles),
+                         hits = this.#hits(text, sequences).filter(({ from }) => from >= start);
+    const [from, to] = excerptOf(text, start, bestHits(hits));
+    const marks = apart(hits.filter(it => it.from >= from && it.to <= to)).map(it => [it.from - from, it.to - from]);
+    return {
+      title,
+      text: text.slice(from, to),
+      marks,
+      before: from > start,
+      after: to < text.length,
+      length: text.length
+    };
+  }
+
+  /**
+   * The text and where the sequences stand in it, at most so many as one looks through.
+   * @param {string} text
+   * @param {string[][]} sequences
+   */
+  whole(text, sequences) {
+    const hits = apart(this.#hits(text, sequences));
+    return {
+      text,
+      hits: hits.slice(0, MOST_HITS).map(({ from, to }) => [from, to]),
+      count: hits.length,
+      isLaidOut: isLaidOut(text)
+    };
+  }
+
+  /** @param {string} text */
+  #wordsOf(text) {
+    const words = [];
+    for (const { 0: piece, index = 0 } of text.matchAll(BETWEEN_SPACES)) {
+      for (const { term, from, to } of this.#inPiece(piece)) words.push({ term, from: index + from, to: index + to });
+    }
+    return words;
+  }
+
+  /**
+   * @param {string} text
+   * @param {string[][]} sequences
+   * @returns {Hit[]}
+   */
+  #hits(text, sequences) {
+    const words = this.#wordsOf(text),
+          begins = new Map(sequences.map(([first]) => [first, /** @type {number[]} */ ([])])), hits = [];
+    sequences.forEach(([first], which) => begins.get(first)?.push(which));
+    const stands = (sequence, i) => sequence.every((term, k) => words[i + k]?.term === term);
+    for (let i = 0; i < words.length; i++) {
+      for (const which of begins.get(words[i].term) ?? []) {
+        const last = i + sequences[which].length - 1;
+        if (stands(sequences[which], i)) hits.push({ which, from: words[i].from, to: words[last].to });
+      }
+    }
+    return hits;
+  }
+
+  /**
+   * The words of a text without spaces.
+   * @param {string} piece
+   */
+  #inPiece(piece) {
+    let words = this.#kept.get(piece);
+    if (words) return words;
+    const bag = piece.length > LONG ? undefined : this.#bag(piece);
+    words = bag ? this.#split(piece, bag) : this.#halved(piece);
+    if (this.#kept.size === MOST_KEPT) this.#kept.clear();
+    this.#kept.set(piece, words);
+    return words;
+  }
+
+  /**
+   * Cuts the shortest front off that has one word and leaves the others: the module says which words each part has.
+   * @param {string} piece
+   * @param {Bag} bag
+   * @returns {Word[]}
+   */
+  #split(piece, bag) {
+    if (bag.count === 0) return [];
+    const [only] = bag.words.keys();
+    if (bag.count === 1) return [placed(only, piece)];
+    const { at, term, back } = this.#firstWord(piece, bag);
+    return [placed(term, piece.slice(0, at)), ...moved(this.#split(piece.slice(at), back), at)];
+  }
+
+  /**
+   * Where a front with one word ends, that word, and what is after it.
+   * @param {string} text
+   * @param {Bag} bag
+   */
+  #firstWord(text, bag) {
+    for (let at = 1; at < text.length; at++) {
+      if (!mayCut(text, at)) continue;
+      const front = this.#bag(text.slice(0, at)), back = this.#bag(text.slice(at));
+      if (front?.count === 1 && back && isSum(bag, front, back)) return { at, term: [...front.words.keys()][0], back };
+    }
+    throw new Error('words without an order');
+  }
+
+  /**
+   * Cuts a long piece near its middle, or has no word in it if that is nowhere possible: it is one word that is too
+   * long.
+   * @param {string} piece
+   * @returns {Word[]}
+   */
+  #halved(piece) {
+    const middle = piece.length >> 1;
+    for (let i = 0; i < middle; i++) {
+      for (const at of [middle + i, middle - i]) {
+        if (this.#isCut(piece, at))
+          return [...this.#inPiece(piece.slice(0, at)), ...moved(this.#inPiece(piece.slice(at)), at)];
+      }
+    }
+    const bag = this.#bag(piece);
+    return bag ? this.#split(piece, bag) : [];
+  }
+
+  /**
+   * Whether a word ends here, by what is near.
+   * @param {string} text
+   * @param {number} at
+   */
+  #isCut(text, at) {
+    if (!mayCut(text, at) || JOINING.test(text.slice(at - 1, at + 2))) return false;
+    const [front, back] = [text.slice(Math.max(at - NEAR, 0), at), text.slice(at, at + NEAR)];
+    const [all, ...parts] = [front + back, front, back].map(part => this.#bag(part));
+    return Boolean(all && parts[0] && parts[1] && isSum(all, parts[0], parts[1]));
+  }
+
+  /**
+   * The words of a short text, or undefined if it has more than a query may have.
+   * @param {string} text
+   * @returns {Bag | undefined}
+   */
+  #bag(text) {
+    const { status, reason, terms } = this.#query(text);
+    if (status !== 0 && reason === MEMORY) throw new RangeError('out of memory');
+    if (status !== 0 && reason !== NO_TERM) return undefined;
+    const words = new Map(terms.map(({ term, weight }) => [new TextDecoder().decode(term), weight]));
+    return { words, count: terms.reduce((sum, { weight }) => sum + weight, 0) };
+  }
+}
+
+/**
+ * The same words, so many units later.
+ * @param {Word[]} words
+ * @param {number} by
+ */
+const moved = (words, by) => words.map(({ term, from, to }) => ({ term, from: from + by, to: to + by }));
+
+/**
+ * Whether the first bag has just what the others have.
+ * @param {Bag} all
+ * @param {Bag} front
+ * @param {Bag} back
+ */
+const isSum = (all, front, back) => all.count === front.count + back.count
+  && [...all.words].every(([word, count]) => count === (front.words.get(word) ?? 0) + (back.words.get(word) ?? 0));
+
+/**
+ * Never inside a character, nor between two plain letters or digits.
+ * @param {string} text
+ * @param {number} at
+ */
+const mayCut = (text, at) => !/[\udc00-\udfff]/.test(text[at]) && !PLAIN.test(text.slice(at - 1, at + 1));
+
+/**
+ * The word of a piece, without the signs about it.
+ * @param {string} term
+ * @param {string} piece
+ */
+function placed(term, piece) {
+  const from = piece.search(/[\p{L}\p{N}\p{M}_]/u);
+  return { term, from: Math.max(from, 0), to: Math.max(from, 0) + piece.replace(EDGES, '').length };
+}
+
+/**
+ * Without those that begin inside an earlier one.
+ * @param {Hit[]} hits
+ */
+function apart(hits) {
+  let end = 0;
+  return hits.filter(({ from, to }) => {
+    if (from < end) return false;
+    end = to;
+    return true;
+  });
+}
+
+/**
+ * The hits of the part with most different sequences, and of these with most hits.
+ * @param {Hit[]} hits
+ */
+function bestHits(hits) {
+  /** @type {Map<number, number>} */
+  const inside = new Map();
+  let best = { first: 0, last: 0, different: 0 };
+  for (let first = 0, last = 0; first < hits.length; first++) {
+    for (; last < hits.length && hits[last].to - hits[first].from <= EXCERPT; last++) {
+      inside.set(hits[last].which, (inside.get(hits[last].which) ?? 0) + 1);
+    }
+    const is = inside.size - best.different;
+    if (is > 0 || (is === 0 && last - first > best.last - best.first)) best = { first, last, different: inside.size };
+    const left = (inside.get(hits[first].which) ?? 1) - 1;
+    if (left > 0) inside.set(hits[first].which, left);
+    else inside.delete(hits[first].which);
+    last = Math.max(last, first + 1);
+  }
+  return hits.length ? [hits[best.first], hits[Math.max(best.last - 1, best.first)]] : [];
+}
+
+/**
+ * From where to where a text is shown at first, for its first and last hit.
+ * @param {string} text
+ * @param {number} start
+ * @param {Hit[]} hits
+ */
+function excerptOf(text, start, [first, last]) {
+  if (!first) return [start, edge(text, start + EXCERPT)];
+  const room = Math.max(EXCERPT - (last.to - first.from), 0), lead = Math.min(LEAD, room >> 1);
+  const from = first.from - start > lead ? edge(text, first.from - lead) : start;
+  return [Math.min(from, first.from), Math.max(edge(text, from + EXCERPT), first.to)];
+}
+
+/** A place to cut near this one: before a word, and never inside a character. */
+function edge(text, at) {
+  if (at >= text.length) return text.length;
+  const space = text.slice(at, at + 40).search(/\s/);
+  if (space >= 0) return at + space + 1;
+  return /[\udc00-\udfff]/.test(text[at]) ? at + 1 : at;
+}
+
+/**
+ * The first line with a sign in it, and where the text goes on after it if that is its title.
+ * @param {string} text
+ * @param {boolean} titles
+ */
+function titled(text, titles) {
+  const from = Math.max(text.search(/\S/), 0), found = text.indexOf('\n', from), end = found < 0 ? text.length : found;
+  const line = text.slice(from, end).trim(),
+        title = line.length > TITLE ? `${line.slice(0, edge(line, TITLE - 20)).trim()} …` : line;
+  return { title, start: titles && line.length <= TITLE ? Math.min(end + 1, text.length) : 0 };
+}
+
+/** Whether the columns of a text say something: several of its lines have wide gaps, or begin with one. */
+function isLaidOut(text) {
+  const lines = text.slice(0, 20000).split('\n').filter(line => line.trim());
+  return lines.length > 3 && 4 * lines.filter(line => /^\s{2,}\S|\S {3,}\S/.test(line)).length > lines.length;
+}

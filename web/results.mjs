@@ -1,0 +1,138 @@
+// The results of an answer. The text of each is fetched, and shown only if the check accepts it. Not proved.
+
+import { Fault } from './fault.mjs';
+import { faultWords, reasonOf, scoreOf } from './sentences.mjs';
+import { element, marked } from './view.mjs';
+
+const AT_ONCE = 4;
+
+/** @typedef {import('./asking.mjs').Answer} Answer */
+
+/** The list of results. */
+export class Results {
+  #list; #linkTo;
+  /** @type {import('./asking.mjs').Asking | undefined} */
+  #asking;
+  #end = new AbortController();
+  /** @type {Promise<unknown>} */
+  #coming = Promise.resolve();
+
+  /**
+   * @param {HTMLElement} list
+   * @param {(doc: number) => string} linkTo the address of a text
+   */
+  constructor(list, linkTo) {
+    this.#list = list;
+    this.#linkTo = linkTo;
+  }
+
+  clear() {
+    this.#end.abort(new DOMException('another answer', 'AbortError'));
+    this.#end = new AbortController();
+    this.#list.replaceChildren();
+  }
+
+  /**
+   * Shows these documents of an answer, and fetches their texts.
+   * @param {import('./asking.mjs').Asking} asking
+   * @param {Answer} answer
+   * @param {number[]} docs
+   */
+  show(asking, answer, docs) {
+    this.clear();
+    this.#asking = asking;
+    const items = docs.map((doc, i) => this.#item(answer, doc, i)),
+          left = items.map((item, i) => ({ item, doc: docs[i] }));
+    this.#list.replaceChildren(...items);
+    const run = async () => {
+      for (let next = left.shift(); next; next = left.shift()) await this.#fill(answer, next.doc, next.item);
+    };
+    this.#coming = Promise.all(Array.from({ length: AT_ONCE }, run));
+  }
+
+  /** Resolves when no text is on its way any more. */
+  whole() { return this.#coming; }
+
+  /**
+   * @param {Answer} answer
+   * @param {number} doc
+   * @param {number} i
+   */
+  #item({ way, rows }, doc, i) {
+    const link = element('a', `Document ${doc}`, { href: this.#linkTo(doc), className: 'open' });
+    const title = element('h3', [link], { className: 'title', dir: 'auto' });
+    const text = element('p', 'The text is on its way …', { className: 'text', dir: 'auto' });
+    const says = way === 'best' ? `${i + 1}. Document ${doc} · ${scoreOf(rows[i])}` : `Document ${doc}`;
+    const frame = element('div', [title, text], { className: 'frame' });
+    frame.setAttribute('role', 'group');
+    frame.setAttribute('aria-label', `From the text of document ${doc}`);
+    const item =
+      element('li', [frame, element('p', [element('span', says, { className: 'says' })], { className: 'small' })]);
+    item.dataset.doc = String(doc);
+    item.setAttribute('aria-busy', 'true');
+    return item;
+  }
+
+  /**
+   * @param {Answer} answer
+   * @param {number} doc
+   * @param {HTMLElement} item
+   */
+  async #fill(answer, doc, item) {
+    const { signal } = this.#end, asking = /** @type {import('./asking.mjs').Asking} */ (this.#asking);
+    try {
+      const { got, read } = await asking.read(answer, 'excerpt', doc, [answer.words.marked, answer.titles], signal);
+      if (signal.aborted) return;
+      if (read) text(item, read);
+      else refused(item, reasonOf(got, 'text'), 'The check’s line:', got.line);
+    } catch (fault) {
+      if (signal.aborted) return;
+      const why = fault instanceof Fault ? fault : new Fault('stopped', `${fault}`);
+      this.#missing(answer, doc, item, why);
+    }
+    item.removeAttribute('aria-busy');
+  }
+
+  /**
+   * @param {Answer} answer
+   * @param {number} doc
+   * @param {HTMLElement} item
+   * @param {Fault} why
+   */
+  #missing(answer, doc, item, why) {
+    const again = element('button', 'Ask again for this text', { type: 'button', className: 'small' });
+    again.addEventListener('click', () => {
+      part(item, '.text').textContent = 'The text is on its way …';
+      item.querySelectorAll('.note').forEach(it => it.remove());
+      item.setAttribute('aria-busy', 'true');
+      this.#fill(answer, doc, item);
+    });
+    part(item, '.text').textContent = '';
+    note(item, `The text did not come. ${faultWords(why)}`, 'What the page saw:', why.line);
+    part(item, '.note').append(' ', again);
+  }
+}
+
+/** @returns {any} */
+const part = (item, name) => item.querySelector(name);
+
+function note(item, says, whose, line) {
+  const it = element('p', `${says} `, { className: 'small note' });
+  it.append(whose, ' ', element('code', line));
+  item.append(it);
+}
+
+function text(item, { title, text: shown, marks, before, after, length }) {
+  part(item, '.open').textContent = title || 'Without a title';
+  part(item, '.text').replaceChildren(before ? '… ' : '', ...marked(shown, marks), after ? ' …' : '');
+  if (length === 0) part(item, '.text').replaceChildren(element('em', 'This document is empty.'));
+  part(item, '.small').append(' · ', element('span', '✓ text checked', { className: 'checked' }));
+}
+
+function refused(item, reason, whose, line) {
+  part(item, '.text').replaceChildren();
+  part(item, '.open').replaceWith(part(item, '.open').textContent);
+  const verdict = element('p', '✗ This text is refused: it is not shown', { className: 'verdict' });
+  item.append(verdict);
+  note(item, reason, whose, line);
+}

@@ -1,0 +1,107 @@
+// The root that the person accepted, which this browser keeps, and the roots that it had before the archive grew. And
+// what becomes of a newer one: it counts only with a growth that the check accepts, and only when the person takes it.
+// Not proved.
+import { bytesOfHex } from './bytes.mjs';
+import { Fault } from './fault.mjs';
+import { dayOf } from './sentences.mjs';
+
+const KEPT = 'root';
+
+/**
+ * The root, when it was kept, and those that it grew from with the days on which they were left.
+ * @returns {{ root?: string, day?: string, before: { root: string, day: string }[] }}
+ */
+export function kept() {
+  try { return { before: [], ...JSON.parse(localStorage.getItem(KEPT) ?? '{}') }; } catch { return { before: [] }; }
+}
+
+/**
+ * The day on which the root was left, if it is one that the kept one grew from.
+ * @param {string} root
+ */
+export const leftOn = root => kept().before.find(it => it.root === root)?.day;
+
+/**
+ * Keeps the root. If it grew from the kept one, that is remembered. Returns whether the browser could.
+ * @param {string} root
+ * @param {boolean} grown
+ */
+export function keep(root, grown) {
+  const own = kept(), day = dayOf(new Date());
+  const before = grown && own.root ? [...own.before, { root: own.root, day }] : [];
+  try {
+    localStorage.setItem(KEPT, JSON.stringify({ root, day, before }));
+    return true;
+  } catch {
+    return false;
+  }
+}
+
+/** How a root came, in a sentence. */
+const ORIGINS = {
+  page: 'It is built into this page, which whoever made the page stands for.',
+  link: 'From the link that you opened. Compare it with the root that the owner published.',
+  file: 'From the file that you opened. Compare it with the root that the owner published.',
+  grown: 'The archive grew to this root. Compare it with the root that the owner published.',
+  typed: 'You entered it. It must come from the archive’s owner.',
+};
+
+/**
+ * Where a root came from.
+ * @param {string} root
+ * @param {string} how a key of ORIGINS, or anything else for a root that is kept
+ */
+export function originOf(root, how) {
+  const { root: own, day } = kept();
+  if (!root) return '64 digits that the archive’s owner published. Take them from the owner, not from the host.';
+  if (root === own) return `Kept in this browser on ${day}.`;
+  if (leftOn(root)) return `You left this root on ${leftOn(root)}: the archive has grown since.`;
+  return ORIGINS[how] ?? ORIGINS.typed;
+}
+
+/**
+ * What an offered root is to the person's: the same; grown from it, with both numbers of documents; older, with the day
+ * on which it was left; other, since no growth leads there; or refused, with the verdict.
+ * @typedef {{ kind: 'same' | 'grown' | 'older' | 'other' | 'refused', before?: number, after?: number, day?: string,
+ *   got?: any }} Relation
+ *
+ * @param {import('./source.mjs').Source} source
+ * @param {import('./calls.mjs').Calls} checks
+ * @param {string} root
+ * @param {string} offered
+ * @param {AbortSignal} [signal]
+ * @returns {Promise<Relation>}
+ */
+export async function relation(source, checks, root, offered, signal) {
+  if (offered === root) return { kind: 'same' };
+  if (leftOn(offered)) return { kind: 'older', day: leftOn(offered) };
+  let steps;
+  try {
+    steps = await source.growth({ from: root, to: offered }, { signal });
+  } catch (fault) {
+    if (fault instanceof Fault && fault.word === 'missing') return { kind: 'other' };
+    throw fault;
+  }
+  return grown(checks, root, offered, steps, signal);
+}
+
+/**
+ * @param {import('./calls.mjs').Calls} checks
+ * @param {string} root
+ * @param {string} offered
+ * @param {{ from: string, to: string, file: Uint8Array }[]} steps
+ * @param {AbortSignal} [signal]
+ * @returns {Promise<Relation>}
+ */
+async function grown(checks, root, offered, steps, signal) {
+  let at = root, before, after;
+  for (const { from, to, file } of steps) {
+    if (from !== at) return { kind: 'other' };
+    const got = await checks.call('growth', [file, bytesOfHex(from), bytesOfHex(to)], { signal });
+    if (got.status !== 0) return { kind: 'refused', got };
+    before ??= got.grown.old;
+    after = got.grown.new;
+    at = to;
+  }
+  return at === offered && before !== undefined ? { kind: 'grown', before, after } : { kind: 'other' };
+}

@@ -1,0 +1,166 @@
+// What the page says, in plain words. The lines are those of docs/formats.md. Not proved.
+
+// Query words are numbered from 0 in byte order, documents and rows from 0. `it` is what was checked: see NAMES.
+const REASONS = {
+  1: () => 'The query is no text that can be sent.',
+  2: n => `You asked for ${n} rows. Ask for 1 to 1,000.`,
+  3: () => 'The page made too little room. This is a fault of the page.',
+  4: n => `The query has ${n} bytes. It may have 4,000.`,
+  5: () => 'The query has no word to look for. A word has a letter or a digit, and 64 bytes at most.',
+  6: n => `The query has ${n} words. It may have 255.`,
+  7: n => `The query has ${n} different words. It may have 32.`,
+  8: (n, m, it) => `The ${it} is longer than any may be (${n} bytes).`,
+  9: (n, m, it) => `The ${it} is cut off: it ends inside the field that starts at byte ${n}.`,
+  10: (n, m, it) => `The ${it} does not start as one does.`,
+  11: (n, m, it) => `Byte ${n} of the ${it} names a version that this page does not know.`,
+  12: (n, m, it) => `Byte ${n} of the ${it} names neither of the two kinds of proof.`,
+  13: (n, m, it) => `The number at byte ${n} of the ${it} is outside its range.`,
+  14: (n, m, it) => `The number at byte ${n} of the ${it} is out of order.`,
+  15: (n, m, it) => `The ${it} goes on after its end, which is before byte ${n}.`,
+  16: (n, m, it) =>
+    `The ${it} is not for your root. It is of another archive, or of an older or newer state of this one.`,
+  17: n => `The proof is for a query with ${n} different words. Your query has another number of them.`,
+  18: () => 'The part of the archive’s dictionary in the proof does not fit the size of the dictionary.',
+  19: () => 'The part of the archive’s dictionary in the proof is not the archive’s: it leads to another root.',
+  20: n =>
+    `For query word ${n} the proof does not show whether the archive has it. It may be a proof for another query.`,
+  21: (n, m) => `In the list of query word ${n}, entry ${m} names a document that the proof does not show.`,
+  22: (n, m) => `In the list of query word ${n}, entry ${m} names a document for a second time.`,
+  23: n => `The part of the list of query word ${n} in the proof does not fit the length of that list.`,
+  24: n => `The list of query word ${n} in the proof is not the archive’s: it leads to another root.`,
+  25: n => `Document ${n} of those that the proof names is in none of the lists that it shows.`,
+  26: () => 'The documents in the proof do not fit the number of documents in the archive.',
+  27: () => 'The documents in the proof are not the archive’s: they lead to another root.',
+  28: n => `The words of document ${n} in the proof do not fit the number of words that it has.`,
+  29: n => `The words of document ${n} in the proof are not the archive’s: they lead to another root.`,
+  30: (n, m) => `For document ${n} the proof does not show whether it has query word ${m}.`,
+  31: n => `Row ${n} of the answer names a document that the proof does not show.`,
+  32: n => `Row ${n} of the answer names the document of an earlier row.`,
+  33: () => 'What the proof shows does not settle this answer. For example, a row was left out, added or moved.',
+  34: () => 'This browser ran out of memory.',
+  35: () => 'The proof is of the other kind, which never shows that no document is missing.',
+  36: n => `The proof has ${n} rows of an answer. One of all documents has none.`,
+  37: () => 'The proof shows no list of a query word to its end. So a document may be missing.',
+  38: () => 'The page made too little room. This is a fault of the page.',
+  39: n => `The archive has only ${n} documents, and this is none of them.`,
+  40: () => 'The digests beside the text do not fit the place of this document in the archive.',
+  41: () =>
+    'This is not the archive’s text of this document: it leads to another root. It was changed, or is that of another '
+    + 'document.',
+  42: () => 'The file of the growth does not begin at your root.',
+  43: () => 'The file of the growth does not lead to the root that is offered.',
+  44: (n, m) => `The archive had ${n} documents, and would now have ${m}. Documents were withdrawn.`,
+  45: () => 'The digests in the file of the growth do not fit the numbers of documents.',
+  46: () => 'The file of the growth leads to other texts than those under your root.',
+  47: () => 'The file of the growth leads to other texts than those under the root that is offered.',
+};
+const NAMES = { best: 'proof', all: 'proof', text: 'file of the text', growth: 'file of the growth' };
+
+/**
+ * One sentence for a verdict that is not green. `what` was checked: `best`, `all`, `text` or `growth`.
+ * @param {import('./check.mjs').Verdict} verdict
+ * @param {string} [what]
+ * @returns {string}
+ */
+export const reasonOf = ({ reason, first, second }, what = 'best') =>
+  (REASONS[reason] ?? (() => 'The check gave a reason that this page does not know.'))(first, second, NAMES[what]);
+
+// Which of these has numbers that count from 0.
+const COUNTED = new Set([20, 21, 22, 23, 24, 25, 30, 31, 32]);
+export const countingOf = ({ reason }) => COUNTED.has(reason)
+  ? 'Rows, entries and documents count from 0, and so do query words, in the order of their bytes, once each.' : '';
+
+const FAULTS = {
+  link: 'The host cannot be reached. Look at your connection, and ask again.',
+  silent: 'Nothing came for 30 seconds. Ask again.',
+  missing: 'This host does not have it. Ask another one.',
+  busy: 'The host has too much to do. Ask again in a minute.',
+  cut: 'The host stopped in the middle. Ask again.',
+  long: 'The host sends more than this may have. It was not read. Ask another host.',
+  wrong: 'The host does not have the archive’s own bytes. Ask another host, and tell the archive’s owner.',
+  input: 'This question cannot be answered.',
+  memory: 'This browser ran out of memory. Close other pages, and ask again.',
+  stopped: 'The check stopped before it had a verdict. Load the page again, and ask again.',
+  blocked: 'Take the page that the archive’s owner made for it.',
+};
+
+/**
+ * A sentence for a fault.
+ * @param {{ word: string, said?: string }} fault
+ * @returns {string}
+ */
+export const faultWords = ({ word, said }) => said || (FAULTS[word] ?? FAULTS.link);
+
+/** @param {number} n */
+export const number = n => n.toLocaleString('en-US');
+
+/** @param {number} n */
+export const documents = n => n === 1 ? '1 document' : `${number(n)} documents`;
+
+/** What to do about a refusal: of what a host sent, or of a saved proof. */
+export const afterRefusal = from => from
+  ? 'Get the file again from whoever sent it to you, and compare the root with theirs.'
+  : 'Ask again. If it is refused again, ask another host, and tell the archive’s owner.';
+
+/**
+ * The line above an accepted answer, which says what is proved.
+ * @param {{ way: string, found: number, r: number, all: number, words: number }} answer how many were found, of how
+ *   many
+ */
+export function headingOf({ way, found, r, all, words }) {
+  const of = `of ${documents(all)}`;
+  if (way === 'all') {
+    if (found === 0) return words === 1 ? 'No document has this word' : 'No document has every one of these words';
+    const every = words === 1 ? 'this word' : 'every one of these words';
+    return found === 1 ? `Checked: 1 ${of} has ${every}, and no other`
+                       : `Checked: ${number(found)} ${of} have ${every}, and no others`;
+  }
+  if (found === 0) return words === 1 ? 'No document has this word' : 'No document has any of these words';
+  const any = words === 1 ? 'this word' : 'any of these words';
+  if (found < r)
+    return found === 1 ? `Checked: the only one ${of} that has ${any}`
+                       : `Checked: all ${number(found)} that have ${any}, ${of}`;
+  return `Checked: the best ${found === 1 ? 'one' : number(found)} ${of}, and none left out`;
+}
+
+/**
+ * What was checked of an accepted answer, in full.
+ * @param {{ way: string, found: number, r: number, root: string }} answer
+ */
+export function checkedOf({ way, found, r, root }) {
+  const best = found === 1 ? 'this is the best document' : `these are the best ${number(found)} documents, best first`;
+  const hashed =
+    `This page rebuilt the hashes of all that the proof shows of the archive, up to the root ${root}, and checked that`;
+  if (way === 'all') {
+    const these = found === 0 ? 'no document has' : 'these documents, and no others, have';
+    return `${hashed} ${these} every word of the query.`;
+  }
+  if (found === 0) return `${hashed} no document scores above 0 for this query.`;
+  if (found < r) return `${hashed} ${best}, and that no other document scores above 0.`;
+  return `${hashed} ${best}: no other document can score higher than ${found === 1 ? 'it' : 'the last one'}.`;
+}
+
+/** What a growth says of the texts that were there before. */
+export const grownOf = before => before === 1 ? 'Text 0 is the same under both roots.'
+  : `Texts 0 to ${number(before - 1)} are the same under both roots.`;
+export const grewOf = (before, after) => after === before
+  ? `The archive has another root, and the same ${documents(before)}`
+  : `The archive grew from ${number(before)} to ${documents(after)}; nothing was withdrawn`;
+
+/** @param {{ lower: bigint, upper: bigint }} row */
+export const scoreOf = ({ lower, upper }) => lower === upper ? `score ${lower}` : `score between ${lower} and ${upper}`;
+
+/** Browsers give the time in steps, some of 1 ms. */
+export const duration = ms => ms < 1.5 ? '1 ms or less' : `${Math.round(ms)} ms`;
+
+/** The day of a moment, as 2031-05-31. */
+export const dayOf = moment => moment.toISOString().slice(0, 10);
+
+/** A text that may run from right to left, inside a sentence. */
+export const quoted = text => `“\u2068${text}\u2069”`;
+
+/**
+ * Words in a list, each quoted.
+ * @param {string[]} words
+ */
+export const listed = words => words.map(quoted).join(', ');

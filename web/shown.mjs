@@ -1,0 +1,30 @@
+// What an accepted proof shows beside its answer, as docs/formats.md lays it out. Not proved: the check has looked at
+// these bytes.
+
+import { Fields } from './bytes.mjs';
+
+const FRONT = 6, DIGEST = 32;
+
+/**
+ * The number of documents of the archive, and for each term of the query, in the order of its bytes, how many documents
+ * have it.
+ * @param {Uint8Array} proof that the check accepted
+ * @returns {{ documents: number, having: number[] }}
+ */
+export function shownBy(proof) {
+  const fields = new Fields('proof', proof);
+  fields.take(FRONT);
+  fields.u8(); // the header begins with its version
+  const documents = fields.u32();
+  fields.take(4 + 3 * DIGEST);
+  const terms = fields.u16(), counts = Array.from({ length: fields.u16() }, () => {
+    fields.u32();
+    fields.take(fields.u8());
+    const count = fields.u32();
+    fields.take(DIGEST);
+    return count;
+  });
+  fields.digests(fields.u16());
+  const having = Array.from({ length: terms }, () => (fields.u8() === 1 ? counts[fields.u16()] : (fields.u16(), 0)));
+  return { documents, having };
+}

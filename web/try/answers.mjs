@@ -1,0 +1,28 @@
+// Draws questions over the folder of an archive and answers them, for comparing elsewhere: prints a list of
+// { call, words, digest }, with terms and digests in hexadecimal. usage: node answers.mjs FOLDER ROOT TEXTS.json SEED
+// COUNT
+
+import { createHash } from 'node:crypto';
+import { readFileSync } from 'node:fs';
+import { Assembler } from '../assembler.mjs';
+import { hex } from '../bytes.mjs';
+import { drawer, question } from './collections.mjs';
+import { FolderHost } from './folder.mjs';
+import { termsOf } from './terms.mjs';
+
+const [folder, root, textsFile, seed, count] = process.argv.slice(2), draw = drawer(Number(seed));
+const texts = JSON.parse(readFileSync(textsFile)).map(item => item.text ?? item),
+      assembler = new Assembler([new FolderHost(folder)]);
+const found = [];
+while (found.length < Number(count)) {
+  const { query, r } = question(draw, texts), terms = termsOf(query),
+                   call = ['ranked', 'ranked', 'ranked', 'both', 'text'][draw(5)];
+  if (!terms) continue;
+  const words = { ranked: { root, terms, r }, both: { root, terms }, text: { root, doc: draw(texts.length) } }[call];
+  const bytes = await assembler[call](words).catch(() => undefined); // too much for one proof of all documents
+  if (!bytes) continue;
+  const spelt =
+    words.terms ? {...words, terms: terms.map(({ term, weight }) => ({ term: hex(term), weight })) } : words;
+  found.push({ call, words: spelt, digest: createHash('sha256').update(bytes).digest('hex') });
+}
+console.log(JSON.stringify(found));

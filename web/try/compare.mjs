@@ -1,0 +1,102 @@
+// Compares assembled bytes with the program's, over collections from a seed.
+// usage: node compare.mjs PROGRAM SEED QUESTIONS ROOM [NAME]    QUESTIONS of each collection; ROOM is a folder for
+// files        node compare.mjs PROGRAM SEED QUESTIONS ROOM INDEX2 TEXTS.json    over an archive that is there already
+
+import { execFileSync } from 'node:child_process';
+import { mkdirSync, readFileSync, writeFileSync } from 'node:fs';
+import { fileURLToPath } from 'node:url';
+import { Assembler } from '../assembler.mjs';
+import { LIMITS } from '../question.mjs';
+import { collections, drawer, question } from './collections.mjs';
+import { FolderHost } from './folder.mjs';
+import { checkOf } from './module.mjs';
+import { run, serve } from './program.mjs';
+import { termsOf } from './terms.mjs';
+
+const [program, seedWord, questionsWord, room, only, textsFile] = process.argv.slice(2);
+const seed = Number(seedWord), questions = Number(questionsWord),
+      make = fileURLToPath(new URL('../../owner/folder.py', import.meta.url));
+const at = name => `${room}/${name}`;
+mkdirSync(room, { recursive: true });
+
+// The program loads the index for each of its commands. Over a large one that takes too long to do often.
+const USUAL = {
+  prove: 40,
+  both: 12,
+  texts: Math.min(questions >> 2, 30)
+},
+      SELDOM = {
+        prove: 300,
+        both: 100,
+        texts: 2
+      };
+const totals = { proofs: 0, both: 0, texts: 0 }, check = await checkOf();
+console.log(check ? 'each answer goes through the module of the page, which also gives the terms'
+                  : 'skipped: the module of the page (page/out) is not made');
+
+function same(kind, name, what, ours, theirs) {
+  if (Buffer.compare(ours, theirs)) {
+    writeFileSync(at('ours'), ours);
+    writeFileSync(at('theirs'), theirs);
+    throw new Error(`${kind}: other bytes over ${name}: ${JSON.stringify(what)}; see ours and theirs in ${room}`);
+  }
+  totals[kind]++;
+}
+
+/** The bytes that a command stores, or undefined if it refuses. */
+function stored(command, index, ...words) {
+  return run(program, command, index, ...words, at('stored')).status === 0 ? readFileSync(at('stored')) : undefined;
+}
+
+async function compareProofs(assembler, root, name, index, asked) {
+  const server = await serve(program, index), theirs = [];
+  // All at once, since the server ends a link that is silent for 30 seconds.
+  for (const { query, r } of asked) theirs.push(await server.prove(r, query));
+  await server.end();
+  for (const [i, { query, r }] of asked.entries()) {
+    const terms = termsOf(query), ours = await assembler.ranked({ root, terms, r });
+    same('proofs', name, { query, r }, ours, theirs[i]);
+    check?.ranked(ours, root, query, terms, r);
+  }
+}
+
+async function compare(name, texts, index, often) {
+  const draw = drawer(seed + 1), root = readFileSync(index).subarray(-32).toString('hex');
+  const assembler = new Assembler([new FolderHost(at('folder'))], { limits: { ...LIMITS, documents: 65536 } });
+  const asked = Array.from({ length: questions }, () => question(draw, texts)).filter(({ query }) => termsOf(query));
+  await compareProofs(assembler, root, name, index, asked);
+  for (const [i, { query, r }] of asked.entries()) {
+    const terms = termsOf(query);
+    if (i % often.prove === 0)
+      same('proofs', name, { query, r }, await assembler.ranked({ root, terms, r }),
+        stored('prove', index, 'tnra', `${r}`, query));
+    const all = i % often.both === 0 && stored('prove-both', index, query);
+    if (!all) continue;
+    const ours = await assembler.both({ root, terms });
+    same('both', name, query, ours, all);
+    check?.both(ours, root, query);
+  }
+  for (let i = 0; i < Math.min(texts.length, often.texts); i++) {
+    const doc = texts.length <= often.texts ? i : draw(texts.length);
+    const ours = await assembler.text({ root, doc });
+    same('texts', name, doc, ours, stored('give', index, `${doc}`));
+    check?.text(ours, root, doc);
+  }
+  const { proofs, both, texts: files } = totals;
+  console.log(`${name}: ${texts.length} documents; so far equal: ${proofs} proofs, ${both} of all, ${files} texts`);
+}
+
+const laidOut = index => execFileSync('python3', [make, index, at('folder')]);
+if (textsFile) {
+  laidOut(only);
+  await compare(only, JSON.parse(readFileSync(textsFile)).map(item => item.text ?? item), only, SELDOM);
+} else {
+  for (const [name, texts] of Object.entries(collections(seed))) {
+    if (only && only !== name) continue;
+    writeFileSync(at('texts.json'), JSON.stringify(texts));
+    run(program, 'build', at('texts.json'), at('index'));
+    run(program, 'migrate', at('index'), at('index2'));
+    laidOut(at('index2'));
+    await compare(name, texts, at('index2'), USUAL);
+  }
+}

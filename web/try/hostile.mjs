@@ -1,0 +1,133 @@
+// Hosts that lie about what they read: changed, cut, swapped, old, mixed, endless or failing reads. Each question must
+// end in a Fault with a word, or in the honest bytes. usage: node hostile.mjs PROGRAM SEED TRIALS ROOM
+
+import { execFileSync } from 'node:child_process';
+import { mkdirSync, writeFileSync } from 'node:fs';
+import { fileURLToPath } from 'node:url';
+import { Assembler } from '../assembler.mjs';
+import { MemoryCache } from '../cache.mjs';
+import { Fault } from '../fault.mjs';
+import { LIMITS } from '../question.mjs';
+import { collections, drawer, question } from './collections.mjs';
+import { FolderHost } from './folder.mjs';
+import { run } from './program.mjs';
+import { termsOf } from './terms.mjs';
+
+const [program, seed, trials, room] = process.argv.slice(2);
+const draw = drawer(Number(seed)), at = name => `${room}/${name}`, honest = new FolderHost(at('folder'));
+mkdirSync(room, { recursive: true });
+
+function prepared(name, texts) {
+  writeFileSync(at('texts.json'), JSON.stringify(texts));
+  run(program, 'build', at('texts.json'), at('index'));
+  const root = run(program, 'migrate', at('index'), at('index2')).out.trim();
+  execFileSync(
+    'python3', [fileURLToPath(new URL('../../owner/folder.py', import.meta.url)), at('index2'), at('folder')]);
+  return { root, name, texts };
+}
+
+const changed = (bytes, change) => { const copy = Uint8Array.from(bytes); change(copy); return copy; };
+const FILES = ['head', 'lists', 'dictionary', 'texts', 'texts-tree', 'documents-tree', 'terms'];
+const elsewhere = new Map();
+/** Each answers what the host gives for a read of `bytes`. */
+const lies = {
+  'one bit': ({ bytes }) => changed(bytes,
+    copy => {
+      copy[draw(copy.length)] ^= 1 << draw(8);
+    }),
+  'few bytes': ({ bytes }) => changed(bytes,
+    copy => {
+      for (let i = 0; i < 4; i++) copy[draw(copy.length)] = draw(256);
+    }),
+  'a byte at the front': ({ bytes }) => changed(bytes,
+    copy => {
+      copy[draw(Math.min(copy.length, 20))] = draw(256);
+    }),
+  'the last byte': ({ bytes }) => changed(bytes,
+    copy => {
+      copy[copy.length - 1] ^= 1 + draw(255);
+    }),
+  'two parts swapped': ({ bytes }) => {
+    const size = 1 + draw(40), a = draw(bytes.length), b = draw(bytes.length);
+    return changed(bytes, copy => {
+      copy.set(bytes.subarray(a, a + size).subarray(0, bytes.length - b), b);
+      copy.set(bytes.subarray(b, b + size).subarray(0, bytes.length - a), a);
+    });
+  },
+  cut: ({ bytes }) => bytes.slice(0, draw(bytes.length)),
+  'nothing': () => new Uint8Array(0),
+  zeros: ({ bytes }) => new Uint8Array(bytes.length),
+  ones: ({ bytes }) => new Uint8Array(bytes.length).fill(255),
+  noise: ({ bytes }) => Uint8Array.from(bytes, () => draw(256)),
+  'too many bytes': ({ bytes }) => Uint8Array.of(...bytes, 1, 2, 3),
+  'a shifted range': ({ path, from, to }) => honest.read(path, from + 1, to + 1),
+  'the start of the file': ({ path, from, to }) => honest.read(path, 0, to - from),
+  'the same range of an old or new archive': ({ own, path, from, to }) =>
+    honest.read(path.replace(own.root, own.other.root), from, to),
+  'the same range of another file': ({ path, from, to }) =>
+    honest.read(path.replace(/[^/]*$/, FILES[draw(FILES.length)]), from, to),
+  'what another read of the file got': ({ path, bytes }) => elsewhere.get(path) ?? bytes,
+  failing: () => {
+    throw new Fault('link', 'host: gone');
+  },
+};
+
+/** A host that lies at one read in `one`, so that some lies come late. */
+function lying(own, lie, one) {
+  return {
+    async read(path, from, to, question) {
+      const bytes = await honest.read(path, from, to, question);
+      const answer = draw(one) === 0 && bytes.length > 0 ? await lies[lie]({ own, path, from, to, bytes }) : bytes;
+      elsewhere.set(path, bytes);
+      return answer;
+    },
+    forget() {},
+  };
+}
+
+const kinds = {
+  ranked: (assembler, own, { terms, r }) => assembler.ranked({ root: own.root, terms, r }),
+  both: (assembler, own, { terms }) => assembler.both({ root: own.root, terms }),
+  text: (assembler, own, { doc }) => assembler.text({ root: own.root, doc }),
+};
+
+/** What comes of a question to a liar: `ask` has the honest bytes to compare with. */
+async function outcomeOf(ask, hosts, cache) {
+  try {
+    const bytes = await ask(new Assembler(hosts, { cache, limits: { ...LIMITS, total: 20000 } }));
+    return Buffer.compare(bytes, await ask(new Assembler([honest]))) ? 'OTHER BYTES' : 'honest';
+  } catch (fault) {
+    return fault instanceof Fault && fault.word && /^(host|input): [ -~]+$/.test(fault.line)
+      ? `fault ${fault.word}`
+      : `NO FAULT: ${fault.stack}`;
+  }
+}
+
+const { middle, edges, 'long and short': uneven } = collections(3);
+const archives = [prepared('middle', middle), prepared('edges', edges), prepared('uneven', uneven)];
+archives.forEach(own => { own.other = prepared(`${own.name} and one more`, [...own.texts, 'one more']); });
+const found = {}, count = (name, outcome) => { (found[name] ??= {})[outcome] = (found[name][outcome] ?? 0) + 1; };
+let wrong = 0;
+for (let i = 0; i < Number(trials); i++) {
+  const own = archives[draw(archives.length)], lie = Object.keys(lies)[draw(Object.keys(lies).length)];
+  const asked = { ...question(draw, own.texts), doc: draw(own.texts.length) }, kind = Object.keys(kinds)[draw(3)];
+  asked.terms = termsOf(asked.query);
+  if (!asked.terms) continue;
+  const ask = assembler => kinds[kind](assembler, own, asked), liar = lying(own, lie, 1 + draw(6)),
+        cache = new MemoryCache();
+  let outcome = await outcomeOf(ask, [liar], cache);
+  count(lie, outcome);
+  // After the liar an honest mirror answers, though the liar's places may be kept.
+  const mirrored = outcome.startsWith('fault') ? await outcomeOf(ask, [liar, honest], cache) : 'honest';
+  if (mirrored !== 'honest') outcome = `WITH A MIRROR: ${mirrored}`;
+  if (!/^(honest|fault)/.test(outcome)) {
+    wrong++;
+    console.log(`${lie}, ${kind}, ${JSON.stringify(asked)}: ${outcome}`);
+  }
+}
+for (const [lie, outcomes] of Object.entries(found))
+  console.log(`${lie}: ${Object.entries(outcomes).map(([what, n]) => `${n} ${what}`).join(', ')}`);
+console.log(wrong
+    ? `${wrong} trials ended otherwise`
+    : 'each ended in a named fault or in the honest bytes, and with an honest mirror in the honest bytes');
+process.exitCode = wrong ? 1 : 0;

@@ -1,0 +1,26 @@
+// The module of the page, if web/out has it: it gives the terms of queries and checks answers.
+
+import { existsSync, readFileSync } from 'node:fs';
+import { bytesOfHex, hex } from '../bytes.mjs';
+import { checker, compile } from '../check.mjs';
+
+const module = new URL('../out/page.wasm', import.meta.url);
+
+/** Checks that throw if the module does not accept, or undefined if there is no module. */
+export async function checkOf() {
+  if (!existsSync(module)) return undefined;
+  const it = await checker(await compile(readFileSync(module)));
+  const accepted = ({ status, line }, about) => {
+    if (status !== 0) throw new Error(`the check refuses ${about}: ${line}`);
+  };
+  const spelt = terms => terms.map(({ term, weight }) => `${hex(term)} ${weight}`).join();
+  return {
+    query: it.query,
+    ranked(proof, root, query, terms, r) {
+      accepted(it.check(proof, bytesOfHex(root), query, r), JSON.stringify(query));
+      if (spelt(it.query(query).terms) !== spelt(terms)) throw new Error(`other terms of ${JSON.stringify(query)}`);
+    },
+    both(proof, root, query) { accepted(it.both(proof, bytesOfHex(root), query), JSON.stringify(query)); },
+    text(file, root, doc) { accepted(it.text(file, bytesOfHex(root), doc), `text ${doc}`); },
+  };
+}

@@ -1,0 +1,115 @@
+// Plays the vectors of the four checks and of words with page.wasm: in a page that web/test serves, or in Node:
+// node web/try/play.mjs web/out
+import { bytesOfHex as bytesOf } from '../bytes.mjs';
+import { checker, compile, linesOf } from '../check.mjs';
+
+const FILES = ['proofs', 'changed', 'made', 'inputs', 'large', 'both', 'texts', 'growths', 'words'];
+
+function changed(proof, changes) {
+  for (const [start, end, digits] of changes) {
+    proof = Uint8Array.from([...proof.slice(0, start), ...bytesOf(digits), ...proof.slice(end)]);
+  }
+  return proof;
+}
+
+// The bytes of parts, as vectors/README.md says.
+function joined(parts) {
+  const pieces = parts.flatMap(([digits, times = 1, first]) => {
+    const piece = bytesOf(digits), front = first === undefined ? 0 : 4,
+          out = new Uint8Array((front + piece.length) * times);
+    for (let i = 0; i < times; i++) {
+      const at = i * (front + piece.length);
+      if (front) new DataView(out.buffer).setUint32(at, first + i);
+      out.set(piece, at + front);
+    }
+    return [out];
+  });
+  const out = new Uint8Array(pieces.reduce((sum, it) => sum + it.length, 0));
+  pieces.reduce((at, it) => (out.set(it, at), at + it.length), 0);
+  return out;
+}
+
+/**
+ * Each vector for proofs: file, what it is about, the proof, root, query, r, and the status and lines that are wanted.
+ */
+function* proofs(files) {
+  const whole = (file, about, it) => ({ file, about, ...it, proof: bytesOf(it.proof) });
+  for (const [about, it] of Object.entries(files.proofs)) yield whole('proofs', about, it);
+  for (const it of files.changed) {
+    const of = files.proofs[it.of];
+    yield {
+      ...of,
+      ...it,
+      file: 'changed',
+      about: `${it.of}: ${it.about}`,
+      proof: changed(bytesOf(of.proof), it.changes)
+    };
+  }
+  for (const it of files.made) yield whole('made', it.about, it);
+  for (const it of files.inputs) {
+    const made = { proof: new Uint8Array(it.zeros), root: '00'.repeat(32), query: it.text.repeat(it.times) };
+    yield { ...it, ...made, file: 'inputs', about: it.lines[0] };
+  }
+  for (const it of files.large) yield { ...it, file: 'large', proof: joined(it.proof) };
+}
+
+/** Each vector of a check: file, what it is about, what is wanted, and what the call answers. */
+function* cases(it, files) {
+  for (const { file, about, proof, root, query, r, status, lines } of proofs(files)) {
+    yield { file, about, status, lines, bytes: proof.length, got: it.check(proof, bytesOf(root), query, r) };
+  }
+  for (const { about, proof, root, query, status, lines } of files.both) {
+    yield { file: 'both', about, status, lines, got: it.both(joined(proof), bytesOf(root), query) };
+  }
+  for (const { about, file, root, document: doc, status, text, lines } of files.texts) {
+    const got = it.text(joined(file), bytesOf(root), doc);
+    yield {
+      file: 'texts',
+      about,
+      status,
+      lines: status === 0 ? [...joined(text)] : lines,
+      got,
+      shown: got.text && [...got.text]
+    };
+  }
+  for (const { about, file, old_root: old, new_root: now, status, lines } of files.growths) {
+    yield { file: 'growths', about, status, lines, got: it.growth(joined(file), bytesOf(old), bytesOf(now)) };
+  }
+  for (const { text, terms } of files.words.filter(isQuery)) {
+    const got = it.query(text), shown = got.terms.map(({ term, weight }) => [new TextDecoder().decode(term), weight]);
+    yield { file: 'words', about: text, status: 0, lines: terms, got, shown };
+  }
+}
+
+// A text with some terms, and no more than a query may have.
+const isQuery = ({ terms }) =>
+  terms.length > 0 && terms.length <= 32 && terms.reduce((sum, [, count]) => sum + count, 0) <= 255;
+
+/** Plays all vectors. Returns the numbers that passed, by file, and what failed. */
+export async function play(module, files) {
+  const it = await checker(module), passed = {}, failed = [], times = [];
+  for (const { file, about, status, lines, bytes, got, shown = linesOf(got) } of cases(it, files)) {
+    if (got.status === status && same(shown, lines)) passed[file] = (passed[file] ?? 0) + 1;
+    else failed.push(`${file}: ${about}: status ${got.status} ${linesOf(got)[0]}`);
+    if (bytes >= 100000) times.push({ about, bytes, ms: got.ms });
+  }
+  return { passed, failed, times };
+}
+
+const same = (a, b) => JSON.stringify([...a]) === JSON.stringify([...b]);
+
+async function inPage() {
+  const json = async name => [name, await (await fetch(`/vectors/${name}.json`)).json()];
+  const module = await compile(await (await fetch('/page.wasm')).arrayBuffer());
+  return play(module, Object.fromEntries(await Promise.all(FILES.map(json))));
+}
+
+async function inNode(folder) {
+  const { readFileSync } = await import('node:fs');
+  const module = await compile(readFileSync(`${folder}/page.wasm`));
+  const read = name => [name, JSON.parse(readFileSync(new URL(`../../vectors/${name}.json`, import.meta.url), 'utf8'))];
+  return play(module, Object.fromEntries(FILES.map(read)));
+}
+
+if (typeof document === 'undefined') console.log(JSON.stringify(await inNode(process.argv[2])));
+else document.title = JSON.stringify(await inPage().catch(fault => ({ fault: String(fault) })));
