@@ -9,4 +9,5 @@ mod Soundness
 mod Refusals
 mod Left
 mod Settling
+mod OneShard
 pub mod Public

@@ -33,6 +33,13 @@ within_greatest [] i low = absurd (omega (arith, low))
 within_greatest (one ∷ more) zero low = omega arith
 within_greatest (one ∷ more) (suc i) low = omega (arith, within_greatest more i (omega (arith, low)))
 
+-- the floor of r rows, and that of another number of rows
+pub floor_full : (r : ℕ) (rows : List CatalogRow) → length rows ≡ r → floor r rows ≡ (last_of rows).lower
+floor_full r rows full = let test : nat_eq (length rows) r ≡ true = grind (arith, nat_tests) in rw test refl
+
+pub floor_short : (r : ℕ) (rows : List CatalogRow) → (length rows < r) ⊎ (r < length rows) → floor r rows ≡ 0
+floor_short r rows short = let test : nat_eq (length rows) r ≡ false = grind (arith, nat_tests) in rw test refl
+
 module _ (size : ℕ → ℕ) (score_of : ℕ → ℕ → ℕ) (shards : List Shown) (r : ℕ) (right : AreBounded size score_of shards) (settled : IsSettled r shards) where
   abbrev rows : List CatalogRow
   rows = merged shards
@@ -73,29 +80,19 @@ module _ (size : ℕ → ℕ) (score_of : ℕ → ℕ → ℕ) (shards : List Sh
       let below : score_of shard doc ≤ (shown_at shards shard).rest = (right.each shard low).others doc inside (omega (arith, counted shard doc, absent)) in
       omega (arith, below, within_greatest shards shard low, settled.rests)
 
-  floor_full : length rows ≡ r → floor r rows ≡ (last_of rows).lower
-  floor_full full =
-      let test : nat_eq (length rows) r ≡ true = grind (arith, nat_tests) in
-      rw test refl
-
-  floor_short : ((length rows < r) ⊎ (r < length rows)) → floor r rows ≡ 0
-  floor_short short =
-      let test : nat_eq (length rows) r ≡ false = grind (arith, nat_tests) in
-      rw test refl
-
   below_last : (shard doc : ℕ) → doc < size shard → times shard doc rows ≡ 0 → 0 < length rows → score_of shard doc ≤ score (last_of rows)
   below_last shard doc inside absent some =
       let least = (every (length rows - 1) e (omega arith)).holds.least in
       elim (cases_order (length rows) r) [
-        | inl full ↦ omega (arith, outside shard doc inside absent, floor_full full, least)
-        | inr short ↦ omega (arith, outside shard doc inside absent, floor_short short)
+        | inl full ↦ omega (arith, outside shard doc inside absent, floor_full r rows full, least)
+        | inr short ↦ omega (arith, outside shard doc inside absent, floor_short r rows short)
       ]
 
   whole : (length rows ≡ r) ⊎ ((shard doc : ℕ) → doc < size shard → times shard doc rows ≡ 0 → score_of shard doc ≡ 0)
   whole = elim (cases_order (length rows) r) [
     | inl full ↦ inl full
     | inr short ↦ inr (λ (shard : ℕ) (doc : ℕ) (inside : doc < size shard) (absent : times shard doc rows ≡ 0).
-        omega (arith, outside shard doc inside absent, floor_short short))
+        omega (arith, outside shard doc inside absent, floor_short r rows short))
   ]
 
   pub rests_are_right : AreRightBy size score_of r rows

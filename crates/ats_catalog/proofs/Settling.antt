@@ -11,7 +11,7 @@ use Rattle.ats_catalog.specs.Headline.{IsCatalogTopOrCollides}
 use Rattle.ats_catalog.specs.Merge.{Shown, floor, IsSettled}
 use Rattle.ats_catalog.specs.Inner.Checked.{AreLeft, ShardsFail}
 use Rattle.ats_catalog.proofs.Refusals.{shards_hold, after_shards, shard_fails}
-use Rattle.ats_catalog.proofs.Soundness.{checked_say, top_or_collides}
+use Rattle.ats_catalog.proofs.Soundness.{checked_say, checked_bounded, top_or_collides}
 
 module _ (H : List ℕ → List ℕ) (root : List ℕ) (query : List (List ℕ × ℕ)) (r : ℕ) (shards : List Framed) (root_is : root_over H (shown_roots shards) ≡ root) where
   pub shards_fail : (refusal : CatalogRefusal) → ShardsFail H query shards refusal → IsFirstCatalogRefusal H root query r shards refusal
@@ -47,7 +47,7 @@ module _ (H : List ℕ → List ℕ) (root : List ℕ) (query : List (List ℕ �
     are_rows is = record { proofs = left.proofs; say = checked_say H query shards left.proofs left.checked; are = left.kept.rows is.0 }
 
     pub headline : ((m : List ℕ) → length (H m) ≡ 32) → AreFrames shards → (fall ≡ true) × (rest ≤ floor r rows) → IsCatalogTopOrCollides H root query r shards
-    headline sized range is = top_or_collides H sized root query r shards left.proofs range root_is left.checked (settles is)
+    headline sized range is = top_or_collides H sized root query r shards left.proofs range root_is (checked_bounded H query shards left.proofs left.checked) (settles is)
 
     unsettled : IsSettled r shown → (fall ≡ true) × (rest ≤ floor r rows)
     unsettled settled =

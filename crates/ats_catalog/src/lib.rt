@@ -34,6 +34,8 @@ mod verifying;
 pub use ats_refusal::CatalogRefusal;
 pub use checking::check_catalog;
 pub use fault::CatalogFault;
-pub use laws::catalogs_have_one_refusal;
+pub use laws::{
+    accepted_catalogs_are_top, catalogs_have_one_refusal, one_shard_settles_as_its_proof,
+};
 pub use row::{CatalogRow, CatalogRows};
 pub use verifying::{most_met, verify_catalog};

@@ -1,6 +1,6 @@
-use Rattle.std.proofs.Common.{rules, arith, refl, inl, inr, List, [], ◌∷◌, sym, ◌∙◌, subst, ℕ, length, ◌≡◌, ◌≢◌, ◌+◌, Some, None}
+use Rattle.std.proofs.Common.{rules, arith, refl, inl, inr, List, [], ◌∷◌, sym, ◌∙◌, subst, ℕ, length, ◌≡◌, ◌+◌}
 use Rattle.std.proofs.lemmas.Bool.{eqb-true}
-use Rattle.ats_console.specs.Lists.{lines_of, IsBadLine, IsListStop}
+use Rattle.ats_console.specs.Lists.{lines_of, IsBadLine}
 use Rattle.ats_console.specs.Roots.{SpellsRoot}
 use Rattle.ats_console.proofs.ListReading.{next_bad, read_more, all_read, as_many_read}
 use Rattle.ats_console.proofs.lists.read_roots.Goals as goal

@@ -1,4 +1,3 @@
-use Rattle.std.proofs.Common.{rules}
 use Rattle.std.proofs.lemmas.Result.{IfErr-weaker}
 use Rattle.ats_plan.proofs.Public.{leads_none}
 use Rattle.ats_console.proofs.Fronts.{get_stops, leads_bytes}
