@@ -43,6 +43,10 @@ class House(NamedTuple):
 
     @property
     def program(self) -> Path:
+        return self.root / "usr/lib/ats/out/ats"
+
+    @property
+    def launcher(self) -> Path:
         return self.root / "usr/bin/ats"
 
 
@@ -157,22 +161,31 @@ def portable(house: House) -> None:
     checks_as_the_program(house, check)
 
 
+def launcher(house: House) -> None:
+    """What is typed names the package, has help, and says what a refusal means."""
+    tried = r"\+tried, not proved" if house.words else ", proved by its packager"
+    said = well(house.launcher, "--version")
+    expect(f"the version {said!r} is one of the package", bool(re.match(rf"ats, [0-9]{{8}}\+[0-9a-f]{{12}}{tried}\n", said)), True)
+    expect("help", well(house.launcher, "help", "verify").splitlines()[0], "ats verify ROOT R QUERY PROOF")
+    refused = run(house.launcher, "verify", "0" * 64, 3, QUERY, SAMPLE, env={**os.environ, "ATS_QUIET": ""})
+    expect("what it says first of a refusal", (refused.returncode, refused.stdout.startswith("ats: ")), (1, True))
+
+
 def page(house: House) -> None:
-    """The packed gateway gives out the packed page, and runs the packed program."""
-    source, root = index(house)
-    place = house.root / "usr/lib/ats/page"
-    with subprocess.Popen([sys.executable, place / "gateway.py", "0", "--index", source], stdout=subprocess.PIPE,
-                          stderr=subprocess.DEVNULL, text=True) as gateway:
-        assert gateway.stdout is not None
+    """The packed server makes the folder of an index by the packed program, and gives out the packed page beside it."""
+    source, _ = index(house)
+    place = house.root / "usr/lib/ats/web"
+    with subprocess.Popen([place / "serve", source], stdout=subprocess.PIPE, text=True) as server:
+        assert server.stdout is not None
         try:
-            address = gateway.stdout.readline().strip()
-            for name in (path.name for path in (place / "out").iterdir()):
+            address, _, root = next(line for line in server.stdout if line.startswith("http")).strip().partition("#root=")
+            wanted = {path.name: path for path in (place / "out").iterdir()}
+            wanted[f"{root}-1/head"] = Path(f"{source}.folder") / f"{root}-1" / "head"
+            for name, path in wanted.items():
                 with urllib.request.urlopen(address + name, timeout=LIMIT) as reply:
-                    expect(f"the bytes of {name}", reply.read() == (place / "out" / name).read_bytes(), True)
-            with urllib.request.urlopen(f"{address}newest", timeout=LIMIT) as reply:
-                expect("its root", root in reply.read().decode(), True)
+                    expect(f"the bytes of {name}", reply.read() == path.read_bytes(), True)
         finally:
-            gateway.terminate()
+            server.terminate()
 
 
 def owner_and_reader(house: House) -> None:
@@ -208,12 +221,12 @@ def statuses_of_the_manual(_: House) -> None:
 
 
 def examples_of_the_manual(house: House) -> None:
-    """Each command of the manual has an example, and all of them, typed in order, end with status 0."""
+    """Each command of the manual has an example, and all of them, typed in order to the launcher, end with status 0."""
     names = [command.name for command in manual.commands(manual.FORMATS.read_text(encoding="utf-8"))]
     expect("commands with an example", sorted(manual.EXAMPLES), sorted(names))
     with tempfile.TemporaryDirectory() as room:
         shutil.copy(SAMPLE, room)
-        path = {**os.environ, "PATH": f"{house.program.parent}:{os.environ['PATH']}"}
+        path = {**os.environ, "PATH": f"{house.launcher.parent}:{os.environ['PATH']}"}
         well("bash", "-e", "-c", "\n".join([*manual.EXAMPLES.values(), "wait"]), cwd=room, env=path)
 
 
@@ -270,6 +283,7 @@ TRIES: "dict[str, Callable[[House], None]]" = {
     "no place is named": no_place_is_named,
     "the library": library,
     "the portable C": portable,
+    "the launcher": launcher,
     "the page": page,
     "the owner's command and the reader's": owner_and_reader,
     "the manual page": manual_page_is_well_formed,

@@ -127,7 +127,7 @@ class Session:
 
 def prepare(folder: Path, program: Path) -> None:
     (folder / "ats").symlink_to(program)
-    for name in ("examples", "owner", "reader", "site"):  # copied, so that the scripts find the program beside them
+    for name in ("examples", "owner", "reader", "web"):  # copied, so that the scripts find the program beside them
         shutil.copytree(HOME / name, folder / name)
     (folder / "folder").mkdir()
     for name, text in TEXTS.items():

@@ -83,7 +83,7 @@ def unit() -> dict[str, str]:
     return dict(line.split("=", 1) for line in lines if "=" in line and not line.startswith("#"))
 
 
-UNITS = {"ats@7071.service": "/usr/bin/ats", "ats-relay@7069.service": "/usr/lib/ats/relay.py"}
+UNITS = {"ats@7071.service": "/usr/lib/ats/out/ats", "ats-relay@7069.service": "/usr/lib/ats/relay.py"}
 
 
 def units_are_valid(folder: Path) -> None:
