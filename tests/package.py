@@ -2,9 +2,9 @@
 
 usage: python3 tests/package.py [--parts FOLDER]
 
-It needs a clone without changes to the files of the commit; ./package first proves what is not proved yet. With --parts it packs the parts in that
-folder instead, and packs them a second time in another clone. Prints each try and whether it passed, what was skipped, and
-at the end 'N passed, M failed'. Ends with status 0 if none failed.
+It needs a clone without changes to the files of the commit; ./package first proves what is not proved yet. With --parts it
+packs the parts in that folder instead, and packs them a second time in another clone. Prints each try and whether it passed,
+what was skipped, and at the end 'N passed, M failed'. Ends with status 0 if none failed.
 """
 
 import argparse
@@ -168,7 +168,7 @@ def launcher(house: House) -> None:
     expect(f"the version {said!r} is one of the package", bool(re.match(rf"ats, [0-9]{{8}}\+[0-9a-f]{{12}}{tried}\n", said)), True)
     expect("help", well(house.launcher, "help", "verify").splitlines()[0], "ats verify ROOT R QUERY PROOF")
     refused = run(house.launcher, "verify", "0" * 64, 3, QUERY, SAMPLE, env={**os.environ, "ATS_QUIET": ""})
-    expect("what it says first of a refusal", (refused.returncode, refused.stdout.startswith("ats: ")), (1, True))
+    expect(f"{refused.stdout!r} explains a refusal", (refused.returncode, "\nats: " in refused.stdout), (1, True))
 
 
 def page(house: House) -> None:
