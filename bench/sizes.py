@@ -1,4 +1,4 @@
-"""Prints how long proofs are: the tables of README.md and of docs/questions.md.
+"""Prints how long proofs are: the table of docs/questions.md, and more.
 
 usage: python3 bench/sizes.py [PROGRAM]
 

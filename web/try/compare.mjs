@@ -32,7 +32,7 @@ const USUAL = {
       };
 const totals = { proofs: 0, both: 0, texts: 0 }, check = await checkOf();
 console.log(check ? 'each answer goes through the module of the page, which also gives the terms'
-                  : 'skipped: the module of the page (page/out) is not made');
+                  : 'skipped: the module of the page (web/out) is not made');
 
 function same(kind, name, what, ours, theirs) {
   if (Buffer.compare(ours, theirs)) {
