@@ -2,8 +2,8 @@
 commands.json here (who uses each, a line of help, an example).
 
 A command is added by its row in docs/formats.md, and by its entry in commands.json: who it is for (`by`), what it does in a
-few words (`does`), an example that ends with status 0 on the sample archive, and the commands whose examples are typed
-before it (`after`). The examples of all commands can be typed in the order of the file.
+few words (`does`), an example that ends with status 0 on the sample archive, if the commands can make its files, and the
+commands whose examples are typed before it (`after`). The examples of all commands can be typed in the order of the file.
 """
 
 import json
@@ -14,7 +14,7 @@ from typing import NamedTuple
 HOME = Path(__file__).resolve().parent.parent
 FORMATS = HOME / "docs" / "formats.md"
 ENTRIES: dict = json.loads((HOME / "launcher" / "commands.json").read_text(encoding="utf-8"))
-EXAMPLES = {name: entry["example"] for name, entry in ENTRIES.items()}
+EXAMPLES = {name: entry["example"] for name, entry in ENTRIES.items() if "example" in entry}
 
 ABOUT = ("The owner of an archive indexes it and publishes one SHA-256 digest, the root. A server answers ranked queries with "
          "proofs. A reader who holds only the root checks them.")
@@ -34,7 +34,7 @@ LINES = {"refused: ": "### The texts after `refused: `", "input: ": "The texts a
 ENDS = {
     1: {"ROOT", "OLDROOT", "audit", "sweep"},
     3: FILES,
-    4: {"COLLECTION", "INDEX", "OLDINDEX", "R", "QUERY", "trial"},
+    4: {"COLLECTION", "INDEX", "OLDINDEX", "ROOTS", "R", "QUERY", "trial"},
     5: {"audit", "sweep"},
     8: {"ADDRESS"},
     9: {"ask"},
@@ -72,6 +72,11 @@ def commands(text: str) -> "list[Command]":
 def words(text: str) -> "dict[str, str]":
     """What each word of a command is."""
     return {name: means for names, means in table(text, "Each word has its place") for name in names.split(", ")}
+
+
+def usage(text: str) -> str:
+    """The line that the program prints for words of no command."""
+    return next(line.strip("`") for status, line, _ in statuses(text) if status == "2")
 
 
 def statuses(text: str) -> "list[list[str]]":

@@ -74,6 +74,9 @@ def detail(text: str, line: str) -> str:
 
 def of_line(text: str, status: int, line: str) -> str:
     """The sentence of docs/formats.md for a line, or else for its status."""
+    shard = re.fullmatch(r"refused: shard (\d+) (.*)", line)
+    if shard:
+        return f"in the proof of shard {shard[1]}, {of_line(text, status, f'refused: {shard[2]}')}"
     found = ": ".join(filter(None, (sentence(text, line), detail(text, line))))
     return found or next(commands.plain(when) for number, _, when in commands.statuses(text) if int(number) == status)
 

@@ -66,8 +66,10 @@ def page(text: str, command: Command) -> str:
     lines += ["", filled(f"With status 0: {commands.prints(text, command.name)}", "  ", "")]
     lines += [filled(f"{status}: {commands.plain(when)}", "  ", "")
               for status, _, when in commands.statuses(text)[1:] if int(status) in own]
-    lines += ["", "Example"]
-    return "\n".join([*lines, *(f"  {as_typed(ENTRIES[name]['example'])}" for name in (*commands.before(command.name), command.name))])
+    if command.name in commands.EXAMPLES:
+        lines += ["", "Example"]
+        lines += [f"  {as_typed(commands.EXAMPLES[name])}" for name in (*commands.before(command.name), command.name)]
+    return "\n".join(lines)
 
 
 def help_of(words: "list[str]") -> int:
@@ -143,7 +145,7 @@ def refuse_unknown(words: "list[str]") -> int:
     names = [command.name for command in commands.commands(text)]
     if words and words[0] in names:
         return 1
-    print("usage:", *names, flush=True)
+    print(commands.usage(text), flush=True)
     explain_words(text, words)
     return 0
 

@@ -31,7 +31,8 @@ def manual(text: str) -> str:
     page += [".SH DESCRIPTION", plain(ABOUT), ".SH COMMANDS"]
     for command in commands(text):
         page += [*tagged(" ".join([command.name, *command.words]), command.does), ".IP",
-                 f"Ends with {', '.join(map(str, ends(command)))}.", ".IP", f".nf\n{plain(EXAMPLES[command.name])}\n.fi"]
+                 f"Ends with {', '.join(map(str, ends(command)))}."]
+        page += [".IP", f".nf\n{plain(EXAMPLES[command.name])}\n.fi"] if command.name in EXAMPLES else []
     page += [".SH HELP", *(line for option in OPTIONS.items() for line in tagged(*option)), ".SH WORDS"]
     page += [line for word, means in table(text, "Each word has its place") for line in tagged(word, means, ".I")]
     page += [".SH OUTPUT", *(line for item in outputs(text) for line in (".PP", ".nf" if "\n\n" in item else ".fi", plain(item).strip(), ".fi"))]

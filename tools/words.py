@@ -12,11 +12,11 @@ HOUSE = Path(__file__).resolve().parent.parent
 # The pages that share a limit, and the limit.
 LIMITS = {
     ("README.md",): 1700,
-    ("docs/architecture.md",): 2300,
+    ("docs/architecture.md",): 1830,
     ("docs/DECISIONS.md",): 4500,
-    ("docs/definitions.md",): 4250,
+    ("docs/definitions.md",): 4200,
     ("docs/theorems.md",): 6750,
-    ("docs/formats.md",): 8850,
+    ("docs/formats.md",): 9100,
     ("docs/client.md",): 9150,
     ("docs/questions.md", "docs/trust.md"): 2590,
     ("docs/owners.md", "docs/service.md"): 1715,
