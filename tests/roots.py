@@ -286,10 +286,13 @@ CATALOGS = ((1, "85889aa12fe6cb8663e3592c416a7881d82fef1372df94d0196f48b02ada28c
 
 
 def catalogs(tries: Tries) -> None:
-    """The roots of worked catalogs."""
+    """The roots of worked catalogs, and that the program says the same."""
     (tries.folder / "wordless.json").write_text('["!!"]')
     roots = [ROOT, tries.root("wordless.json", "wordless.index"), ROOT]
-    tries.check("the roots of worked catalogs", all(catalog_root(roots[:count]) == wanted for count, wanted in CATALOGS))
+    for count, wanted in CATALOGS:
+        (tries.folder / "roots.txt").write_text("\n".join(roots[:count]) + "\n")
+        ended = tries.ask("catalog-root", "roots.txt")
+        tries.check(f"the root of a worked catalog of {count}", catalog_root(roots[:count]) == wanted == ended.printed.decode().strip())
 
 
 def signed(tries: Tries) -> None:
