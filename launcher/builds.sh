@@ -1,14 +1,10 @@
-# What ./ats and ./prove share: which builds are kept, when one is fresh, and who may build. A script that reads this file
-# has set home, the folder of the repository. It has a function progress, which prints how far its work is, and one
-# clear_up, which removes what its work leaves.
+# What ./ats and ./prove share: which builds are kept, when one is fresh, who may build, and how a build ends. A script that
+# reads this file has set home, the folder of the repository, launch, the process with which a build ends, and log, a file for
+# what a command prints. It has a function progress, which prints how far its build is.
 
 kept=$home/out
 proved=$kept/ats
-quick=$kept/quick
 estimate='17 to 41 minutes on four processors'
-working=
-guard= # ends what it starts when this script ends, however it ends
-! command -v setpriv >/dev/null 2>&1 || guard='setpriv --pdeathsig TERM'
 
 say() {
     printf 'ats: %s\n' "$1" >&2
@@ -29,61 +25,39 @@ is_fresh() {
         -o -newer "$file" -print -quit)" ]
 }
 
-# What was proved of the program stands while its code and its definitions do, whatever becomes of the proofs. To look at
-# these too would take longer than a call may.
-is_program_fresh() {
-    is_fresh "$1" "$home"/crates/*/src "$home"/crates/*/specs
-}
-
 # Takes the lock of a build, a file, which gets the time at which the build begins. The system gives it back when this script
-# and all that it started have ended.
+# and all that it started have ended. Half a second passes before a wait is said, since clear_up may hold the lock that long.
 take_lock() {
-    for tool in rt flock; do
-        command -v "$tool" >/dev/null 2>&1 || stop 127 "$tool is not on the PATH: README.md names the kit that has rt, and util-linux has flock"
+    for tool in rt flock setpriv; do
+        command -v "$tool" >/dev/null 2>&1 || stop 127 "$tool is not on the PATH: README.md names the kit that has rt, and util-linux has flock and setpriv"
     done
     lock=$1
     mkdir -p "$kept" && touch -a "$lock" || stop 126 "cannot write to $kept"
     exec 9>>"$lock"
-    flock -n 9 || { say "waiting: another launch is building, and holds $lock" && $guard flock 9; }
+    flock -w 0.5 9 || { say "waiting: another launch is building, and holds $lock" && setpriv --pdeathsig TERM flock 9; }
     touch "$lock"
-    trap 'trap "" HUP INT TERM; end $working; clear_up' EXIT
-    for number in 1 2 15; do
-        trap "exit $((128 + number))" "$number"
-    done
 }
 
-give_lock() {
-    clear_up
-    trap - EXIT HUP INT TERM
-    exec 9>&-
+# Removes these folders, and a program that is not kept yet, once the lock is given back. No signal to this script or its
+# terminal reaches the session in which this waits.
+clear_up() {
+    setsid -f flock "$lock" rm -rf "$lock.program" "$@" 9>&- >/dev/null 2>&1
 }
 
-# Runs a command, which is ended if this script is, and shows on a terminal how far it is.
+# Runs a command, and shows on a terminal how far it is. When this script ends, however it ends, the system tells the command to
+# end. The command does not begin if the launch ended before the system was asked for that.
 work() {
-    "$@" &
-    working=$!
+    setpriv --pdeathsig TERM sh -c '[ -e "/proc/$0/exe" ] && exec "$@"' "$launch" "$@" >>"$log" 2>&1 &
     if [ -t 2 ]; then
-        while sleep 1 && kill -0 "$working" 2>/dev/null; do
+        while sleep 1 && kill -0 "$!" 2>/dev/null; do
             printf '\r%79s\rats: %.74s' '' "$(progress)" >&2
         done
         printf '\r%79s\r' '' >&2
     fi
-    wait "$working"
-    status=$?
-    working=
-    return "$status"
+    wait "$!"
 }
 
-# Ends the children with these numbers. One signal is not enough, since a process may lose it just after its start.
-end() {
-    for child; do
-        while kill "$child" 2>/dev/null; do
-            sleep 0.2
-        done
-    done
-}
-
-# Keeps a program under a name, with the time at which its build began: what changed meanwhile is newer.
+# Keeps a program under a name, whole, with the time at which its build began: what changed meanwhile is newer.
 keep() {
-    touch -r "$lock" "$1" && mv -f "$1" "$2"
+    cp "$1" "$lock.program" && touch -r "$lock" "$lock.program" && mv -f "$lock.program" "$2"
 }

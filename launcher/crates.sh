@@ -1,46 +1,8 @@
-# How ./prove proves crates side by side. It has set home, notes, a folder of what is done, and top, the crate that all others
-# are for.
+# Proves a library once all that it stands on is proved. ./prove runs it for each crate, with the crate's name and the names
+# of those below it. It has set home, launch, notes, a folder of what is done, places, one of where crates are proved, and
+# width, how many are proved at a time.
 
-# Where crates are proved: the gate refuses Rattle files that it does not check, and does not look here.
-places=$home/.git/ats-places
-[ -d "$home/.git" ] || places=$kept/places
-
-# The crates that the top one is made of, by crates.txt: each in a line, with all that it stands on, lowest first.
-rooms() {
-    awk -v top="$top" '/^[a-z]/ {
-        name = $1
-        sub(/:$/, "", name)
-        $1 = ""
-        below[name] = $0
-    }
-    function visit(name, parts, own, n, i) {
-        if (name in all) return
-        all[name] = ""
-        n = split(below[name], parts, " ")
-        for (i = 1; i <= n; i++) if (parts[i] in below) {
-            visit(parts[i])
-            own = own " " parts[i] all[parts[i]]
-        }
-        n = split(own, parts, " ")
-        for (i = 1; i <= n; i++) if (!((name, parts[i]) in has)) {
-            has[name, parts[i]] = 1
-            all[name] = all[name] " " parts[i]
-        }
-        print name all[name]
-    }
-    END { visit(top) }' "$home/crates.txt"
-}
-
-progress() {
-    at=$(cat "$places"/*/room 2>/dev/null | tr '\n' ' ')
-    echo "$(ls "$notes" | grep -c '^proved-') of $(wc -l <"$notes/rooms") crates proved; at ${at:-$top}"
-}
-
-# Waits a second. Ends if the script was killed and could not end its parts.
-pause() {
-    sleep 1
-    [ -e "/proc/$$/exe" ] || exit 1
-}
+. "$home/launcher/builds.sh"
 
 # The first crate is made, and no source of it or of those below it, which are named after it, is newer.
 is_made() {
@@ -50,24 +12,14 @@ is_made() {
     done
 }
 
-# How many crates are proved at a time: one for each processor, if there are some 4 GB of memory for each.
-width() {
-    processors=$(getconf _NPROCESSORS_ONLN)
-    fit=$(awk '/^MemAvailable:/ { print int($2 / 4000000) }' /proc/meminfo 2>/dev/null)
-    [ "${fit:-1}" -lt "$processors" ] && processors=${fit:-1}
-    [ "$processors" -ge 1 ] && echo "$processors" || echo 1
-}
-
-# Takes one of the places in which crates are proved. Their names have this run's number, since parts of one that was killed
-# may still remove theirs.
+# Takes one of the places in which crates are proved.
 take_place() {
     while :; do
-        i=0
-        while [ "$i" -lt "$width" ]; do
-            i=$((i + 1))
-            mkdir "$places/$$-$i" 2>/dev/null && place=$places/$$-$i && return
+        for number in $(seq "$width"); do
+            place=$places/$number
+            mkdir "$place" 2>/dev/null && return
         done
-        pause
+        sleep 1
     done
 }
 
@@ -92,49 +44,29 @@ prove_in_place() {
     lay_out "$@" || return 1
     jobs=2
     [ "$(ls "$places" | wc -l)" -gt 1 ] || jobs=$width
-    echo "$1" >"$place/room"
-    (cd -- "$place/crates/$1" && exec rt lib --jobs "$jobs" --statements) >"$notes/$1.log" 2>&1 </dev/null &
-    checking=$!
-    while kill -0 "$checking" 2>/dev/null; do
-        pause
-    done
-    wait "$checking"
-    status=$?
-    checking=
-    [ "$status" -eq 0 ] && rm -rf "$home/crates/$1/out" && mv "$place/crates/$1/out" "$home/crates/$1/out"
+    echo "$1" >"$place/crate"
+    log=$notes/$1.log
+    work env -C "$place/crates/$1" rt lib --jobs "$jobs" --statements &&
+        rm -rf "$home/crates/$1/out" && mv "$place/crates/$1/out" "$home/crates/$1/out"
 }
 
-# Proves a library once all that it stands on, which is named after it, is proved.
-prove_room() {
-    checking=
-    place=
-    trap 'trap "" TERM; end $checking; rm -rf "$place"' EXIT
-    trap 'exit 1' TERM
-    room=$1
+# Waits until the crates after the first one are proved. Ends if one cannot be.
+wait_for_below() {
     shift
     for below; do
         until [ -e "$notes/proved-$below" ]; do
             [ ! -e "$notes/unproved" ] || exit 1
-            pause
+            sleep 1
         done
     done
-    if is_made "$room" "$@" || { take_place && prove_in_place "$room" "$@"; }; then
-        : >"$notes/proved-$room"
-    else
-        : >"$notes/unproved"
-    fi
 }
 
-# Proves the libraries side by side if none waits for another.
-prove_rooms() {
-    proving=
-    trap 'trap "" TERM; end $proving' EXIT
-    trap 'exit 1' TERM
-    while read -r room below; do
-        [ "$room" != "$top" ] || continue
-        prove_room "$room" $below &
-        proving="$proving $!"
-    done <"$notes/rooms"
-    wait
-    proving=
-}
+[ -e "/proc/$launch/exe" ] || exit 1 # it ended before the system was asked to end this script with it
+place=
+wait_for_below "$@"
+if is_made "$@" || { take_place && prove_in_place "$@"; }; then
+    : >"$notes/proved-$1"
+else
+    : >"$notes/unproved"
+fi
+rm -rf "$place"
