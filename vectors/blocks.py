@@ -172,6 +172,15 @@ def both(entry):
     return [*lines, f'$ ./ats both {entry["root"]} {query} P', *result(entry)]
 
 
+def catalog(entry):
+    lines = fill('P', [[entry['proof'], 1]] if entry['proof'] else [])
+    query = word(entry['query'], lines)
+    if 'roots' in entry:
+        roots = ''.join(f'{root}\n' for root in entry['roots'])
+        lines += [f': bytes R {roots.encode().hex()}', '$ ./ats catalog-root R', entry['root']]
+    return [*lines, f'$ ./ats catalog {entry["root"]} {entry["r"]} {query} P', *result(entry)]
+
+
 def block(lines):
     return '```\n' + '\n'.join(lines) + '\n```\n'
 
@@ -187,7 +196,7 @@ def document():
     pages['proofs'] = [proof(entry) for entry in proofs.values()]
     pages['changed'] = [changed(entry, proofs) for entry in read('changed')]
     lists = [('made', made), ('words', words), ('numbers', numbers), ('inputs', inputs), ('large', large), ('asked', asked)]
-    for name, as_lines in [*lists, ('served', served), ('texts', text), ('growths', growth), ('both', both)]:
+    for name, as_lines in [*lists, ('served', served), ('texts', text), ('growths', growth), ('both', both), ('catalogs', catalog)]:
         pages[name] = [as_lines(entry) for entry in read(name)]
     return HEAD + ''.join(f'\n## {name}.json\n\n' + '\n'.join(block(lines) for lines in page) for name, page in pages.items())
 

@@ -1,5 +1,5 @@
-"""A second client: `verify`, `ask`, `fetch`, `growth`, `both` and the answers of a server, by docs/client.md and
-docs/formats.md.
+"""A second client: `verify`, `ask`, `fetch`, `growth`, `both`, `catalog` and the answers of a server, by docs/client.md
+and docs/formats.md.
 
 `make.py` compares all that the program prints with this, which shares no code with the program. It is written to be
 compared with those pages, step by step. It is no client for other texts, since of Unicode it knows only what the
@@ -14,6 +14,7 @@ LONGEST = 2**26
 LONGEST_TEXT_FILE = 2**21
 LONGEST_TEXT = 2**20
 LONGEST_GROWTH = 4096
+LONGEST_CATALOG = 2**28
 LATER = 2**32 - 1
 BLOCK = 64
 NOTHING = bytes(32)
@@ -347,6 +348,15 @@ class Reader:
         self.end()
         return shown
 
+    def catalog(self):
+        """The root of each shard, and the bytes of its proof."""
+        self.number(4, 0x41545353, 0x41545353, 'magic')
+        self.number(1, 1, 1, 'version')
+        roots = [self.take(32) for _ in range(self.number(4, 1, 4096))]
+        shards = [(root, self.take(self.number(4, 0, LONGEST))) for root in roots]
+        self.end()
+        return shards
+
 
 # The check
 
@@ -466,15 +476,20 @@ def check_shown(proof, root, found):
     return present, [int.from_bytes(leaf.values[0], 'big') for _, _, _, leaf in present]
 
 
-def answer(proof, root, r, found):
-    """The rows of an accepted proof."""
+def scored(proof, root, found):
+    """Checks all but the last step. Returns the two bounds of each met document, and the threshold."""
     present, counts = check_shown(proof, root, found)
     check_rows(proof)
     coefficients = [weight * idf(proof.header.documents, count) for (_, _, weight, _), count in zip(present, counts)]
     rests = [0 if len(shown.entries) == count else coefficient * shown.entries[-1][1]
              for count, coefficient, shown in zip(counts, coefficients, proof.lists)]
-    lows, highs = bounds(proof, coefficients, rests)
-    check_settled(proof, r, lows, highs, sum(rests))
+    return (*bounds(proof, coefficients, rests), sum(rests))
+
+
+def answer(proof, root, r, found):
+    """The rows of an accepted proof."""
+    lows, highs, threshold = scored(proof, root, found)
+    check_settled(proof, r, lows, highs, threshold)
     return [f'{rank} {proof.met[row]} {lows[row]} {highs[row]}' for rank, row in enumerate(proof.rows, 1)]
 
 
@@ -486,6 +501,59 @@ def verify(root, r, query, data):
         return {'status': 4, 'lines': [f'input: {why}']}
     try:
         return {'status': 0, 'lines': answer(Reader(data).proof(), bytes.fromhex(root), r, found)}
+    except Refused as why:
+        return {'status': 1, 'lines': [f'refused: {why}']}
+
+
+# Catalogs
+
+def catalog_root(roots):
+    header = b'ATSC\1' + len(roots).to_bytes(4, 'big') + rebuilt(len(roots), list(enumerate(roots)), [], 'none')
+    return digest(b'\2' + header)
+
+
+def shard(number, root, data, found):
+    """The rows of a shard, each with its number, and the most that another of its documents can score."""
+    try:
+        proof = Reader(data).proof()
+        lows, highs, threshold = scored(proof, root, found)
+    except Refused as why:
+        raise Refused(f'shard {number} {why}') from None
+    others = set(range(len(proof.met))) - set(proof.rows)
+    rows = [(number, proof.met[row], lows[row], highs[row]) for row in proof.rows]
+    return rows, max([threshold, *(highs[each] for each in others)])
+
+
+def merged(shards):
+    """Of the next rows of all shards the best, until none is left."""
+    rows, waiting = [], [list(rows) for rows, _ in shards]
+    while any(waiting):
+        first = max(filter(None, waiting), key=lambda next_ones: (next_ones[0][2], next_ones[0][3], -next_ones[0][0]))
+        rows.append(first.pop(0))
+    return rows
+
+
+def answer_of_all(shards, root, r, found):
+    """The rows of an accepted proof of a catalog."""
+    if catalog_root([each for each, _ in shards]) != root:
+        raise Refused('other-root')
+    checked = [shard(number, each, data, found) for number, (each, data) in enumerate(shards)]
+    rows = merged(checked)
+    floor = rows[-1][2] if len(rows) == r else 0
+    is_falling = all(row[3] <= before[2] for before, row in zip(rows, rows[1:]))
+    if len(rows) > r or not is_falling or any(rest > floor for _, rest in checked):
+        raise Refused('not-settled')
+    return [' '.join(map(str, (rank, *row))) for rank, row in enumerate(rows, 1)]
+
+
+def catalog(root, r, query, data):
+    """The status and the lines."""
+    try:
+        found = terms_of_question(r, query)
+    except Refused as why:
+        return {'status': 4, 'lines': [f'input: {why}']}
+    try:
+        return {'status': 0, 'lines': answer_of_all(Reader(data, LONGEST_CATALOG).catalog(), bytes.fromhex(root), r, found)}
     except Refused as why:
         return {'status': 1, 'lines': [f'refused: {why}']}
 

@@ -2281,6 +2281,165 @@ def look_over_both(told):
         raise SystemExit(f'both: no vector for {sorted(missing)}')
 
 
+# Catalogs: archives under one root. All comes from the second client but the proofs of the shards, which the program makes
+
+# The shards of each, by their collections and formats.
+CATALOGS = {
+    'one shard': [('foxes', ONE)],
+    'both formats': [('foxes', ONE), ('more foxes', TWO)],
+    'no word between': [('foxes', ONE), ('silent', ONE), ('foxes', ONE)],
+    'seven shards': [('ties', ONE), ('foxes', TWO), ('drawn', ONE), ('dogs', ONE), ('beyond', TWO), ('more foxes', ONE),
+                     ('ties', TWO)],
+}
+
+CATALOG_QUESTIONS = [
+    ('one shard', 2, 'red hen'), ('both formats', 1, 'red hen'), ('both formats', 3, 'red hen'),
+    ('both formats', 1000, 'fox hen'), ('both formats', 2, 'zebra'), ('no word between', 1, 'red hen'),
+    ('no word between', 3, 'red hen'), ('seven shards', 1, 'fox'), ('seven shards', 1, 'w1 w8 w8'),
+    ('seven shards', 4, 'ant fox hen w3'),
+]
+
+CATALOG_RANGES = {
+    'magic': (0x41545353, 0x41545353), 'version': (1, 1), 'number of shards': (1, 4096), 'length of a proof': (0, LONGEST),
+}
+
+
+@dataclass
+class Catalog:
+    """The roots of the shards, and the bytes of the proof of each."""
+    roots: list
+    proofs: list
+
+    def root(self):
+        return digest(HEADER_TAGS[ONE] + b'ATSC' + number(1, 1) + number(len(self.roots), 4) + tree_root(self.roots)).hex()
+
+    def data(self):
+        return b''.join(data for _, data in self.fields())
+
+    def fields(self):
+        yield 'magic', b'ATSS'
+        yield 'version', number(1, 1)
+        yield 'number of shards', number(len(self.roots), 4)
+        for root in self.roots:
+            yield 'root of a shard', root
+        for proof in self.proofs:
+            yield 'length of a proof', number(len(proof), 4)
+            yield 'proof of a shard', proof
+
+
+def in_catalog(program, archives, name, algorithm, r, query):
+    """An answer of all shards: the proof of each for so many rows, of which only those stay that are among the best of all."""
+    shards = [archives[version][one] for one, version in CATALOGS[name]]
+    proofs = [program.prove(shard.index, algorithm, r, query) for shard in shards]
+    roots = [bytes.fromhex(shard.root) for shard in shards]
+    found = client.terms_of_query(query)
+    best = client.merged([client.shard(at, *each, found) for at, each in enumerate(zip(roots, proofs))])[:r]
+    counts = [sum(row[0] == at for row in best) for at in range(len(shards))]
+    return Catalog(roots, [with_rows(data, lambda rows: rows[:count]) for data, count in zip(proofs, counts)])
+
+
+def with_rows(data, change):
+    """A proof with other rows."""
+    proof = Reader(data).proof()
+    proof.rows = change(proof.rows)
+    return proof.data()
+
+
+def changed_shard(honest, at, change):
+    """A catalog's proof with another proof of one shard."""
+    return changed_copy(honest, proofs=[*honest.proofs[:at], change(honest.proofs[at]), *honest.proofs[at + 1:]])
+
+
+def catalog_shapes(honest):
+    """Faults of shape, by what they are."""
+    data = honest.data()
+    yield from field_changes(honest, CATALOG_RANGES)
+    yield 'no bytes', b''
+    yield 'one byte more', data + b'\0'
+    yield 'the magic of a proof', b'ATSP' + data[4:]
+    yield 'the proof of one shard alone', honest.proofs[0]
+
+
+def catalog_changes(honest):
+    """Changes of what a proof shows of two shards, the first one with one row and the second with two, by what they are."""
+    one, two = honest.proofs
+    yield 'another first root', changed_copy(honest, roots=[NOTHING, honest.roots[1]])
+    yield 'the two roots exchanged', changed_copy(honest, roots=honest.roots[::-1])
+    yield 'the two shards exchanged', Catalog(honest.roots[::-1], honest.proofs[::-1])
+    yield 'without the last shard', Catalog(honest.roots[:1], honest.proofs[:1])
+    yield 'each shard twice', Catalog(honest.roots * 2, honest.proofs * 2)
+    yield 'the two proofs exchanged', changed_copy(honest, proofs=honest.proofs[::-1])
+    yield 'the first proof for both shards', changed_copy(honest, proofs=[one, one])
+    yield 'a proof without bytes', changed_copy(honest, proofs=[one, b''])
+    yield 'a proof with a byte more', changed_copy(honest, proofs=[one + b'\0', two])
+    yield 'two: another root, and a proof with a byte more', Catalog([NOTHING, honest.roots[1]], [one + b'\0', two])
+    yield 'two: faults of both proofs', changed_copy(honest, proofs=[one[:-1], b''])
+    no_row = with_rows(one, lambda rows: [])
+    yield 'two: a row that is left out, and a fault of the second proof', changed_copy(honest, proofs=[no_row, b''])
+    for about, at, change in CHANGED_ROWS:
+        yield about, changed_shard(honest, at, lambda data: with_rows(data, change))
+
+
+# Other rows of one of two shards.
+CHANGED_ROWS = [
+    ('the first row is left out', 1, lambda rows: rows[1:]), ('the last row is left out', 1, lambda rows: rows[:-1]),
+    ('the row of the first shard is left out', 0, lambda rows: []),
+    ('the rows of a shard exchanged', 1, lambda rows: rows[::-1]), ('a row twice', 1, lambda rows: [rows[0], *rows]),
+    ('a row out of the met documents', 0, lambda rows: [9]),
+]
+
+
+def catalogs_asked(honest):
+    """Roots and questions other than those that the proof is for, by what they are."""
+    root = honest.root()
+    yield 'under another root', NOTHING.hex(), 3, 'red hen'
+    yield 'under the root of its first shard', honest.roots[0].hex(), 3, 'red hen'
+    yield 'for fewer rows', root, 2, 'red hen'
+    yield 'for more rows', root, 4, 'red hen'
+    yield 'for another query', root, 3, 'red fox'
+    yield 'for other weights', root, 3, 'red hen hen'
+
+
+def tying_rows(tie):
+    """Proofs of one row of three shards, of which the first and the last are the same."""
+    first, middle, last = tie.proofs
+    yield 'the other of two rows that tie', changed_copy(tie, proofs=[last, middle, first])
+    yield 'neither of two rows that tie', changed_copy(tie, proofs=[last, middle, last])
+    yield 'both of two rows that tie', changed_copy(tie, proofs=[first, middle, first])
+
+
+def catalogs(program, archives):
+    """Honest proofs and changed ones, each with what `catalog` prints of it. An honest one has the roots of its shards."""
+    told = []
+
+    def tell(about, root, r, query, data, **other):
+        answer = client.catalog(root, r, query, data)
+        told.append({'about': about, **other, 'root': root, 'r': r, 'query': query, **answer, 'proof': data.hex()})
+
+    def tell_changes(algorithm):
+        honest = in_catalog(program, archives, 'both formats', algorithm, 3, 'red hen')
+        for about, changed_one in catalog_changes(honest):
+            tell(f'{about} by {algorithm}', honest.root(), 3, 'red hen', changed_one.data())
+        for about, *asked in catalogs_asked(honest):
+            tell(f'{about} by {algorithm}', *asked, honest.data())
+        tie = in_catalog(program, archives, 'no word between', algorithm, 1, 'red hen')
+        for about, changed_one in tying_rows(tie):
+            tell(f'{about} by {algorithm}', tie.root(), 1, 'red hen', changed_one.data())
+
+    for name, r, query in CATALOG_QUESTIONS:
+        for algorithm in ('tra', 'tnra'):
+            honest = in_catalog(program, archives, name, algorithm, r, query)
+            roots = [root.hex() for root in honest.roots]
+            tell(f'{name} by {algorithm}', honest.root(), r, query, honest.data(), roots=roots)
+            agreed(told[-1], told[-1]['status'], 0)
+    honest = in_catalog(program, archives, 'both formats', 'tnra', 3, 'red hen')
+    for about, data in catalog_shapes(honest):
+        tell(about, honest.root(), 3, 'red hen', data)
+    for algorithm in ('tra', 'tnra'):
+        tell_changes(algorithm)
+    return told
+
+
 # The files
 
 REFUSALS = {
@@ -2337,6 +2496,7 @@ def main(words):
         save('texts.json', texts(archives))
         save('growths.json', growths(archives))
         save('both.json', both(archives, proofs))
+        save('catalogs.json', catalogs(program, archives))
         save('fields.json', {
             name: [[start, end, label, proofs[name]['proof'][2 * start:2 * end]]
                    for label, start, end in with_places(Reader(bytes.fromhex(proofs[name]['proof'])).proof())]
