@@ -3,7 +3,7 @@
 // kept is bound again when it is used.
 
 const MOST_MEMORY = 2 ** 24, MOST_STORED = 2 ** 26; // bytes
-const NAME = 'ats-ranges', RANGES = 'ranges', SIZES = 'sizes', WAIT_MS = 50;
+const NAME = 'ats-ranges', RANGES = 'ranges', SIZES = 'sizes', WAIT_MS = 50, PATIENCE_MS = 1000;
 
 /**
  * @typedef {object} Cache
@@ -46,20 +46,21 @@ export class MemoryCache {
 }
 
 /**
+ * There is a limit, since another page may hold the store and never give it back.
  * @template Made
  * @param {IDBRequest<Made>} request
  * @returns {Promise<Made>}
  */
 const settled = request => new Promise((done, failed) => {
-  request.onsuccess = () => done(request.result);
-  const fail = () => failed(request.error ?? new Error('the store is in use'));
-  request.onerror = fail;
-  Object.assign(request, { onblocked: fail });
+  const inUse = () => failed(new Error('the store is in use')), timer = setTimeout(inUse, PATIENCE_MS);
+  request.onsuccess = () => { clearTimeout(timer); done(request.result); };
+  request.onerror = () => { clearTimeout(timer); failed(request.error); };
+  Object.assign(request, { onblocked: inUse });
 });
 
-/** In front of the store is a memory. A store that fails keeps nothing, and is no fault. */
+/** In front of the store is a memory. A store that fails keeps nothing, is no fault, and is not read again. */
 export class StoredCache {
-  #store; #most;
+  #store; #most; #answers = true;
   #memory = new MemoryCache();
   /** @type {Map<string, Uint8Array>} */
   #coming = new Map();
@@ -92,10 +93,11 @@ export class StoredCache {
    */
   async get(key) {
     const near = await this.#memory.get(key);
-    if (near) return near;
+    if (near || !this.#answers) return near;
     try {
       return await settled(this.#store.transaction(RANGES).objectStore(RANGES).get(key));
     } catch {
+      this.#answers = false;
       return undefined;
     }
   }

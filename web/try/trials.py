@@ -32,6 +32,7 @@ FORGETTING = """new Promise(done => {
     all.oncomplete = () => { opening.result.close(); done(0); };
   };
   opening.onerror = opening.onblocked = () => done(0);
+  setTimeout(done, 3000, 0); // Firefox at times holds the store for a page that is gone; the page then does without
 })"""
 
 
@@ -73,6 +74,18 @@ def opened(browser: browsers.Browser, url: str, ready: str = READY) -> float:
     browser.open(url)
     browsers.wait(lambda: text(browser, "state").startswith(ready))
     return began
+
+
+# Holds the store of the page for ever, as another page may.
+HOLDING = """new Promise(done => {
+  const opening = indexedDB.open('ats-ranges', 1);
+  opening.onsuccess = () => {
+    const held = opening.result.transaction(['ranges', 'sizes'], 'readwrite').objectStore('ranges');
+    const hold = () => { held.get('').onsuccess = hold; };
+    hold();
+    done(0);
+  };
+})"""
 
 
 def page(browser: browsers.Browser, world: World, name: str = "first", more: str = "", ready: str = READY) -> str:
@@ -328,6 +341,16 @@ def try_root_that_changes(browser: browsers.Browser, world: World, trial: Any) -
     ask(browser, QUERY)
     got = do(browser, "askAndType", query=QUERY, root=world.archives["grown"].root, ms=1)
     trial.see(not got["shown"] and not got["rows"], "a root typed after an answer", got)
+
+
+def try_held_store(browser: browsers.Browser, world: World, trial: Any) -> None:
+    """A store that does not answer delays an answer, and does not stop it."""
+    page(browser, world)
+    browser.run(HOLDING)
+    began = time.monotonic()
+    got = ask(browser, QUERY)
+    took = time.monotonic() - began
+    trial.see(got["kind"] == "good" and len(got["rows"]) == 3 and took < 5, "a store that is held", (took, got))
 
 
 def try_links(browser: browsers.Browser, world: World, trial: Any) -> None:
@@ -612,6 +635,7 @@ TRIALS = (
     try_frames,
     try_lies,
     try_root_that_changes,
+    try_held_store,
     try_links,
     try_growth,
     try_saving,
