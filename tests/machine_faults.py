@@ -28,7 +28,7 @@ from typing import Callable, Iterator, NamedTuple, Optional
 import faults
 import tracing
 from trying import BEFORE, MORE_ROOT, MORE_TEXTS, QUERY, REQUEST, ROOT, ROOT_IN_BLOCKS, ROW, TEXTS
-from trying import Differs, Skipped, corpora, expect, framed, free_port, passes, program_of
+from trying import Differs, Skipped, Tally, corpora, expect, framed, free_port, program_of
 
 WAIT = 5  # seconds after which a command that waits is ended
 LIMIT = 120
@@ -497,11 +497,12 @@ TRIES: list[tuple[str, Callable[[House], str]]] = [
 
 
 def main() -> int:
-    program = program_of(sys.argv[1:])
+    program, tally = program_of(sys.argv[1:]), Tally()
     with tempfile.TemporaryDirectory() as folder:
         house = build(program, Path(folder))
-        failed = sum(not passes(house, says, one) for says, one in TRIES)
-    return 1 if failed else 0
+        for says, one in TRIES:
+            tally.attempt(says, one, house)
+    return tally.conclude()
 
 
 if __name__ == "__main__":

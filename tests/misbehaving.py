@@ -1,6 +1,7 @@
 """A web server over a folder, and a server of proofs, which misbehave as they are told, for `folders.py`."""
 
 import contextlib
+import functools
 import http.server
 import socket
 import threading
@@ -23,7 +24,7 @@ class Handler(http.server.SimpleHTTPRequestHandler):
             else:
                 super().do_GET()
 
-    def log_message(self, *_) -> None:
+    def log_message(self, *_: object) -> None:
         pass
 
     def begin(self, length: Optional[int]) -> None:
@@ -86,9 +87,7 @@ class Web(NamedTuple):
 @contextlib.contextmanager
 def web(folder: Path, other: int = 0) -> Iterator[Web]:
     """Serves the folder. The trick `other-host` redirects to the port `other`."""
-    def handler(*words) -> Handler:
-        return Handler(*words, directory=str(folder))
-
+    handler = functools.partial(Handler, directory=str(folder))
     server = http.server.ThreadingHTTPServer(("127.0.0.1", 0), handler)
     server.asked, server.other, server.daemon_threads, server.block_on_close = [], other, True, False
     threading.Thread(target=server.serve_forever, daemon=True).start()

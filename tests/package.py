@@ -19,7 +19,7 @@ import urllib.request
 from pathlib import Path
 from typing import Callable, Iterator, NamedTuple, Optional
 
-from trying import Differs, Skipped, expect
+from trying import Skipped, Tally, expect
 
 HOME = Path(__file__).resolve().parent.parent
 sys.path.append(str(HOME / "tools"))
@@ -296,30 +296,15 @@ TRIES: "dict[str, Callable[[House], None]]" = {
 }
 
 
-def tried(name: str, house: House, skipped: "list[str]") -> Optional[bool]:
-    try:
-        TRIES[name](house)
-    except Skipped as why:
-        skipped.append(f"{name}: {why}")
-        return None
-    except (Differs, OSError, StopIteration, subprocess.SubprocessError) as why:
-        print(f"FAILED  {name}: {why}", flush=True)
-        return False
-    print(f"passed  {name}", flush=True)
-    return True
-
-
 def main() -> int:
     words = argparse.ArgumentParser(description=__doc__, formatter_class=argparse.RawDescriptionHelpFormatter)
     words.add_argument("--parts", metavar="FOLDER", type=Path)
-    parts, skipped = words.parse_args().parts, []
+    parts, tally = words.parse_args().parts, Tally()
     with tempfile.TemporaryDirectory() as name:
         house = House(["--parts", parts.resolve()] if parts else [], Path(name))
-        results = [tried(name, house, skipped) for name in TRIES]
-    for line in skipped:
-        print(f"skipped {line}")
-    print(f"{results.count(True)} passed, {results.count(False)} failed")
-    return 1 if False in results else 0
+        for says, one in TRIES.items():
+            tally.attempt(says, one, house)
+    return tally.conclude()
 
 
 if __name__ == "__main__":

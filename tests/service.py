@@ -11,7 +11,6 @@ process holds, and how many readers four processes serve, by size of the archive
 import argparse
 import contextlib
 import itertools
-import os
 import re
 import resource
 import shutil
@@ -30,7 +29,7 @@ from concurrent.futures import ThreadPoolExecutor
 from pathlib import Path
 from typing import Callable, Iterator, NamedTuple, Optional
 
-from trying import Differs, Skipped, corpora, expect, free_port
+from trying import Differs, Skipped, Tally, corpora, expect, free_port
 
 HOME = Path(__file__).resolve().parent.parent
 SERVICE = HOME / "service"
@@ -652,24 +651,11 @@ def tries(house: House) -> list[tuple[str, Callable[[], None]]]:
             *((name, lambda one=one: one(house)) for name, one in on_processes)]
 
 
-def tried(name: str, one: Callable[[], None], skipped: list[str]) -> Optional[bool]:
-    try:
-        one()
-    except Skipped as why:
-        skipped.append(f"{name}: {why}")
-        return None
-    except (Differs, OSError, subprocess.SubprocessError) as why:
-        print(f"FAILED  {name}: {why}", flush=True)
-        return False
-    print(f"passed  {name}", flush=True)
-    return True
-
-
 def main() -> int:
     words = argparse.ArgumentParser(description=__doc__, formatter_class=argparse.RawDescriptionHelpFormatter)
     words.add_argument("--program", default=str(HOME / "ats"))
     words.add_argument("--measure", action="store_true")
-    given, skipped = words.parse_args(), []
+    given, tally = words.parse_args(), Tally()
     with tempfile.TemporaryDirectory() as name:
         folder, program = Path(name), given.program
         if given.measure:
@@ -681,11 +667,9 @@ def main() -> int:
         texts.write_text(kept + ', "blood count blood count, and a count of red blood"]', encoding="utf-8")
         house = House(program, archive(program, folder, "old", HOME / "examples" / "archive.json"),
                       archive(program, folder, "new", texts), folder)
-        results = [tried(name, one, skipped) for name, one in tries(house)]
-    for line in skipped:
-        print(f"skipped {line}")
-    print(f"{results.count(True)} passed, {results.count(False)} failed")
-    return 1 if False in results else 0
+        for says, one in tries(house):
+            tally.attempt(says, one)
+    return tally.conclude()
 
 
 if __name__ == "__main__":

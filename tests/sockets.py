@@ -21,7 +21,7 @@ import time
 from pathlib import Path
 from typing import Callable, NamedTuple, Optional
 
-from trying import HOME, QUERY, REQUEST, ROW, TEXTS, Skipped, expect, framed, free_port, measure, passes, program_of
+from trying import HOME, QUERY, REQUEST, ROW, TEXTS, Skipped, Tally, expect, framed, free_port, measure, program_of
 
 LIMIT = 120  # the longest wait in seconds
 SILENCE = 30  # seconds that the program waits for a silent peer
@@ -337,13 +337,14 @@ SILENT: list[tuple[str, Callable[[House], None]]] = [
 def main() -> int:
     words = [word for word in sys.argv[1:] if word != "--silence"]
     tries = TRIES + (SILENT if "--silence" in sys.argv[1:] else [])
-    program = program_of(words)
+    program, tally = program_of(words), Tally()
     with tempfile.TemporaryDirectory() as folder:
         house = build(program, Path(folder))
-        failed = sum(not passes(house, says, one) for says, one in tries)
+        for says, one in tries:
+            tally.attempt(says, one, house)
     if tries == TRIES:
-        print(f"not tried: {len(SILENT)} with peers that fall silent, which take --silence")
-    return 1 if failed else 0
+        tally.skip(f"{len(SILENT)} with peers that fall silent, which take --silence")
+    return tally.conclude()
 
 
 if __name__ == "__main__":

@@ -19,7 +19,7 @@ from typing import Callable, NamedTuple
 
 import sockets
 from sockets import House, Server
-from trying import QUERY, REQUEST, ROW, TEXTS, Differs, Skipped, expect, framed, free_port, program_of
+from trying import QUERY, REQUEST, ROW, TEXTS, Skipped, Tally, expect, framed, free_port, program_of
 
 SPACE = 8 << 20  # bytes of address space: enough to begin, and too few for the large collection
 LARGE = ["word " * 200_000] * 4  # 4 MB of text
@@ -127,28 +127,16 @@ STATUSES: "list[Callable[[Files], None]]" = [
 ]
 
 
-def tell(status: int, files: Files, attempt: Callable[[Files], None]) -> bool:
-    try:
-        attempt(files)
-    except Skipped as why:
-        print(f"{status:2}  skipped: {why}", flush=True)
-    except (Differs, OSError, subprocess.TimeoutExpired) as what:
-        print(f"{status:2}  FAILED: {what}", flush=True)
-        return False
-    else:
-        print(f"{status:2}  passed: {attempt.__name__.replace('_', ' ')}", flush=True)
-    return True
-
-
-def main() -> None:
+def main() -> int:
     if len(sys.argv) > 2 or sys.argv[1:] == ["-h"]:
         sys.exit(__doc__)
-    program = program_of(sys.argv[1:])
+    program, tally = program_of(sys.argv[1:]), Tally()
     with tempfile.TemporaryDirectory() as folder:
         files = build(program, Path(folder))
-        passed = [tell(status, files, attempt) for status, attempt in enumerate(STATUSES)]
-    print(f"{sum(passed)} of {len(passed)} statuses as they must be, or skipped")
-    sys.exit(0 if all(passed) else 1)
+        for status, one in enumerate(STATUSES):
+            tally.attempt(f"status {status}: {one.__name__.replace('_', ' ')}", one, files)
+    return tally.conclude()
 
 
-main()
+if __name__ == "__main__":
+    sys.exit(main())

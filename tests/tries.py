@@ -2,13 +2,13 @@
 
 import contextlib
 import os
-import socket
 import subprocess
 import sys
 from pathlib import Path
 from typing import Iterator, NamedTuple, Optional
 
-HOME = Path(__file__).resolve().parent.parent
+from trying import HOME, Tally, free_port
+
 LIMIT = 600  # seconds of one run
 STRANGE = 'new\nline "\t\u202e\x1b[31m\U0001f98a.txt'
 
@@ -19,28 +19,12 @@ class Ended(NamedTuple):
     said: str
 
 
-class Tries:
+class Tries(Tally):
     """What was tried so far, in a folder of its own."""
 
     def __init__(self, folder: Path, program: str):
+        super().__init__()
         self.folder, self.program = folder, program
-        self.passed = self.failed = 0
-        self.skipped: list[str] = []
-
-    def check(self, says: str, passed: bool) -> None:
-        print(f"{'passed' if passed else 'FAILED'}: {says}", flush=True)
-        self.passed += passed
-        self.failed += not passed
-
-    def skip(self, says: str) -> None:
-        self.skipped.append(says)
-
-    def conclude(self) -> int:
-        """Prints what was skipped and how many passed, and returns the status."""
-        for says in self.skipped:
-            print(f"skipped: {says}")
-        print(f"{self.passed} passed, {self.failed} failed")
-        return 1 if self.failed else 0
 
     def run(self, *words: object, given: bytes = b"", output: Optional[Path] = None, place: str = ".", **variables: str) -> Ended:
         """A run that ends by itself; what it prints goes to `output` if that is said."""
@@ -89,9 +73,7 @@ class Tries:
     @contextlib.contextmanager
     def serving(self, index: str, connections: int) -> Iterator[str]:
         """The address of the program's server for this many connections."""
-        with socket.socket() as free:
-            free.bind(("127.0.0.1", 0))
-            address = f"127.0.0.1:{free.getsockname()[1]}"
+        address = f"127.0.0.1:{free_port()}"
         with subprocess.Popen([self.program, "serve", index, str(connections), address], cwd=self.folder, stdout=subprocess.PIPE) as server:
             try:
                 self.check("a server listens", server.stdout.readline() == b"listening\n")

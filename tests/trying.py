@@ -1,4 +1,4 @@
-"""What the tests share: three short texts with what the program says of them, and how a try passes or fails.
+"""What the tests share: three short texts with what the program says of them, and the count of what passed.
 
 What the measures have too is imported here from their folder.
 """
@@ -7,7 +7,7 @@ import struct
 import subprocess
 import sys
 from pathlib import Path
-from typing import Callable, Optional, TypeVar
+from typing import Callable, Optional
 
 HOME = Path(__file__).resolve().parent.parent
 sys.path.append(str(HOME / "bench"))
@@ -26,8 +26,6 @@ ROOT_IN_BLOCKS = "2951f46d5980442cd63e807581d1fe33fdd82af7d29a0b4267f871c88b998e
 MORE_TEXTS = TEXTS[:-1] + ',"fox hen"]'
 MORE_ROOT = "158bee81463a856290f8c62a370947e939a44b77a87bbd3c1d0dfe924202cd3c"
 BEFORE = b"before"  # the content of a file before another one is stored under its name
-
-House = TypeVar("House")
 
 
 class Differs(Exception):
@@ -48,15 +46,49 @@ def framed(body: bytes) -> bytes:
     return struct.pack(">I", len(body)) + body
 
 
-def passes(house: House, says: str, one: Callable[[House], Optional[str]]) -> bool:
-    """Prints whether a try passes, and what it says of itself."""
-    try:
-        told = one(house)
-    except Skipped as why:
-        print(f"not tried: {says}: {why}", flush=True)
-        return True
-    except (Differs, OSError, subprocess.TimeoutExpired) as why:
-        print(f"FAILED: {says}: {why}", flush=True)
-        return False
-    print(f"passed: {says}{f': {told}' if told else ''}", flush=True)
-    return True
+class Tally:
+    """Counts what was tried, and prints each try. Of a case that is named only failures are printed, with its name."""
+
+    MOST_SHOWN = 900  # characters of what came instead
+
+    def __init__(self, case: str = "") -> None:
+        self.case = case
+        self.passed = self.failed = 0
+        self.skipped: list[str] = []
+
+    def check(self, says: str, passed: object, got: object = "") -> None:
+        self.passed += bool(passed)
+        self.failed += not passed
+        if not passed:
+            print(f"FAILED: {self.named(says)}" + (f": {str(got)[-self.MOST_SHOWN:]}" if got != "" else ""), flush=True)
+        elif not self.case:
+            print(f"passed: {says}", flush=True)
+
+    def attempt(self, says: str, one: Callable[..., Optional[str]], *given: object) -> None:
+        """A try that says what it saw, and raises what differs or why this machine cannot try it."""
+        try:
+            told = one(*given)
+        except Skipped as why:
+            self.skip(f"{says}: {why}")
+        except (Differs, OSError, StopIteration, subprocess.SubprocessError) as why:
+            self.check(says, False, why)
+        else:
+            self.check(f"{says}: {told}" if told else says, True)
+
+    def skip(self, says: str) -> None:
+        self.skipped.append(self.named(says))
+
+    def add(self, case: "Tally") -> None:
+        """Counts a case."""
+        self.passed, self.failed = self.passed + case.passed, self.failed + case.failed
+        self.skipped += case.skipped
+
+    def named(self, says: str) -> str:
+        return f"{self.case}: {says}" if self.case else says
+
+    def conclude(self) -> int:
+        """Prints what was skipped and how many passed, and returns the status."""
+        for says in self.skipped:
+            print(f"skipped: {says}")
+        print(f"{self.passed} passed, {self.failed} failed", flush=True)
+        return 1 if self.failed else 0
