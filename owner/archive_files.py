@@ -12,11 +12,12 @@ import os
 import stat
 import subprocess
 import sys
-from typing import Callable, Iterator, NamedTuple
+from typing import Callable, Iterator, NamedTuple, Optional, Union
 
 HOME = os.path.dirname(os.path.dirname(os.path.abspath(__file__)))
 BAR_AWAY = "\r\x1b[K"
 PROGRAM = os.path.join(HOME, "ats")
+Name = Union[str, bytes]  # of a file
 
 
 class Fault(Exception):
@@ -53,7 +54,7 @@ def printable(text: str) -> str:
     return "".join(each if each.isprintable() else ascii(each)[1:-1] for each in text)
 
 
-def shown(path) -> str:
+def shown(path: Name) -> str:
     """A name of a file as Python writes strings: it may hold anything."""
     return repr(os.fsdecode(path))
 
@@ -67,7 +68,7 @@ def reason(error: OSError) -> str:
     return error.strerror or printable(str(error))
 
 
-def read_within(path, limit: int) -> bytes:
+def read_within(path: Name, limit: int) -> bytes:
     """The bytes of a file. It raises OSError if the file cannot be read or is no regular one, and TooLong if it has more
     bytes than the limit; it opens a pipe without waiting, and reads no more than shows that a file is too long."""
     with open(path, "rb", opener=lambda name, flags: os.open(name, flags | os.O_NONBLOCK)) as file:
@@ -97,7 +98,7 @@ class Storing:
             file.flush()
             os.fsync(file.fileno())
 
-    def __exit__(self, kind, *_) -> None:
+    def __exit__(self, kind: Optional[type], *rest: object) -> None:
         try:
             while kind is None and self.parts:
                 os.replace(*self.parts[0])

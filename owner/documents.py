@@ -12,7 +12,7 @@ import re
 from typing import Iterator, NamedTuple, Optional
 
 import conversions
-from archive_files import Fault, TooLong, read_within, reason, shown
+from archive_files import Fault, Name, TooLong, read_within, reason, shown
 from conversions import Converted
 
 MAX_TEXT = 1 << 20
@@ -215,7 +215,7 @@ def name_of(item: dict) -> str:
     return item.get("path", item["title"])
 
 
-def items_of(path) -> list:
+def items_of(path: Name) -> list:
     """The items of a collection file, whatever they are."""
     try:
         items = json.loads(read_within(path, MAX_COLLECTION).decode("utf-8"))
@@ -230,7 +230,7 @@ def items_of(path) -> list:
     return items
 
 
-def documents_of(path) -> list[dict]:
+def documents_of(path: Name) -> list[dict]:
     """The items of a collection file that `collect.py` made: each has a title and a text."""
     items = items_of(path)
     for number, item in enumerate(items):

@@ -12,33 +12,37 @@ import json
 import pathlib
 import re
 import sys
+from typing import Sequence
 
 HOUSE = pathlib.Path(__file__).resolve().parent.parent
 TIMES = HOUSE / "out" / "costs.json"
+Chain = tuple[float, list[str]]  # its seconds, and its crates, lowest first
+NO_CHAIN: Chain = (0, [])
+Spans = dict[str, Sequence[float]]  # when the proof of each crate began and ended
 
 
-def crates_below():
+def crates_below() -> dict[str, list[str]]:
     """The crates of the repository that each one stands on, by crates.txt."""
     lines = (HOUSE / "crates.txt").read_text(encoding="utf-8").splitlines()
     named = {found[1]: found[2].split() for found in (re.match(r"(\w+)[\w ]*: *(.*)", line) for line in lines) if found}
     return {name: [below for below in some if below in named] for name, some in named.items()}
 
 
-def longest(spans, below):
+def longest(spans: Spans, below: dict[str, list[str]]) -> list[str]:
     """The crates of the longest chain, lowest first. `spans` has for each crate when its proof began and ended."""
-    chains = {}
+    chains: dict[str, Chain] = {}
 
-    def chain_to(crate):
+    def chain_to(crate: str) -> Chain:
         if crate not in chains:
-            lower = max((chain_to(each) for each in below.get(crate, []) if each in spans), default=(0, []))
+            lower = max((chain_to(each) for each in below.get(crate, []) if each in spans), default=NO_CHAIN)
             begin, end = spans[crate]
             chains[crate] = (lower[0] + end - begin, lower[1] + [crate])
         return chains[crate]
 
-    return max(map(chain_to, spans), default=(0, []))[1]
+    return max(map(chain_to, spans), default=NO_CHAIN)[1]
 
 
-def show(spans):
+def show(spans: Spans) -> None:
     """Prints the chain: when the proof of each crate began, and how long it took."""
     chain = longest(spans, crates_below())
     whole = sum(spans[crate][1] - spans[crate][0] for crate in chain)
@@ -48,7 +52,7 @@ def show(spans):
         print(f"{crate:20} began at {begin / 60:5.1f}, took {(end - begin) / 60:5.1f} minutes")
 
 
-def main():
+def main() -> int:
     path = pathlib.Path(sys.argv[1]) if len(sys.argv) > 1 else TIMES
     try:
         times = json.loads(path.read_text(encoding="utf-8"))

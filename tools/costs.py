@@ -24,6 +24,7 @@ import resource
 import subprocess
 import sys
 import time
+from typing import Callable, Optional
 
 import chain
 
@@ -31,16 +32,18 @@ TICKS = os.sysconf("SC_CLK_TCK")
 PAUSE = 0.5  # seconds between two looks
 KINDS = ("proof", "tests", "edits", "builds")
 ITSELF = ("rt", "")
+Job = tuple[str, str]  # a crate, and a kind of work
+Times = dict[str, dict[str, list[float]]]  # for both: first and last seen, and the processor seconds
 
 
 class Process:
     """What was seen last of a process."""
 
-    def __init__(self, number, fields):
+    def __init__(self, number: int, fields: list[str]) -> None:
         self.number, self.parent, self.started = number, int(fields[1]), fields[19]
         self.seconds = (int(fields[11]) + int(fields[12])) / TICKS
 
-    def job(self):
+    def job(self) -> Optional[Job]:
         """The crate and the kind of work, or none."""
         folder = pathlib.Path(f"/proc/{self.number}")
         try:
@@ -51,7 +54,7 @@ class Process:
         return job_of(words, place)
 
 
-def job_of(words, place):
+def job_of(words: list[str], place: str) -> Optional[Job]:
     """The crate and the kind of work of a process with these words, in this folder."""
     ran = next((re.search(r"/rt-run-[^/]+/bin/(\w+?)(?:_tests)?$", word) for word in words if "/rt-run-" in word), None)
     if ran:
@@ -67,7 +70,7 @@ def job_of(words, place):
     return crate, "tests" if "--test" in words else "proof"
 
 
-def processes():
+def processes() -> dict[int, Process]:
     """All processes of the machine, by their numbers."""
     found = {}
     for folder in pathlib.Path("/proc").glob("[0-9]*"):
@@ -82,19 +85,19 @@ def processes():
 class Run:
     """A command, and what its processes took so far."""
 
-    def __init__(self, number):
+    def __init__(self, number: int) -> None:
         self.number, self.start = number, time.monotonic()
-        self.jobs = {}  # by the number and the start of a process
-        self.seconds = {}  # the same
-        self.spans = {}  # when a job was seen first and last
+        self.jobs: dict[tuple[int, str], Job] = {}  # by the number and the start of a process
+        self.seconds: dict[tuple[int, str], float] = {}  # the same
+        self.spans: dict[Job, tuple[float, float]] = {}  # when a job was seen first and last
 
-    def is_below(self, process, every):
+    def is_below(self, process: Optional[Process], every: dict[int, Process]) -> bool:
         """Whether the command started it, or something that the command started."""
         while process and process.number != self.number and (process.number, process.started) not in self.jobs:
             process = every.get(process.parent)
         return process is not None
 
-    def look(self):
+    def look(self) -> None:
         """Notes what each process of the command has taken."""
         every, now = processes(), time.monotonic() - self.start
         for process in every.values():
@@ -107,27 +110,27 @@ class Run:
             begin, _ = self.spans.get(self.jobs[key], (now, now))
             self.spans[self.jobs[key]] = begin, now
 
-    def times(self):
+    def times(self) -> Times:
         """For each crate and kind of work: when it was seen first and last, and the processor seconds."""
-        sums = {}
+        sums: dict[Job, float] = {}
         for key, job in self.jobs.items():
             sums[job] = sums.get(job, 0) + self.seconds[key]
-        found = {}
+        found: Times = {}
         for (crate, kind), seconds in sums.items():
             found.setdefault(crate, {})[kind] = [*(round(at, 2) for at in self.spans[crate, kind]), round(seconds, 2)]
         return found
 
 
-def edits_of(crate):
+def edits_of(crate: str) -> int:
     return len(list((chain.HOUSE / "crates" / crate / "must-fail").glob("*.edit")))
 
 
-def row(name, sums, note=""):
+def row(name: str, sums: list[float], note: str = "") -> None:
     cells = "".join(f"{seconds:9.0f}" if seconds else f"{'':9}" for seconds in sums)
     print(f"{name:20}{cells}{sum(sums):9.0f}{note}".rstrip())
 
 
-def show(times, missed):
+def show(times: Times, missed: float) -> None:
     """Prints the table: the dearest crate first."""
     print(f"{'processor seconds':20}{''.join(f'{kind:>9}' for kind in KINDS)}{'all':>9}")
     sums = {crate: [kinds.get(kind, [0, 0, 0])[2] for kind in KINDS] for crate, kinds in times.items() if crate != ITSELF[0]}
@@ -140,7 +143,7 @@ def show(times, missed):
     print(f"in all {whole:.0f} seconds, {whole / 60:.0f} minutes\n")
 
 
-def followed(run, is_running):
+def followed(run: Run, is_running: Callable[[], bool]) -> float:
     """Looks until the command has ended, and returns the seconds by the clock."""
     while is_running():
         run.look()
@@ -148,7 +151,7 @@ def followed(run, is_running):
     return time.monotonic() - run.start
 
 
-def run_command(words):
+def run_command(words: list[str]) -> tuple[Run, float, float, int]:
     """Runs the command. Returns what it took, its seconds by the clock, what was missed, and its status."""
     command = subprocess.Popen(words)
     run = Run(command.pid)
@@ -157,7 +160,7 @@ def run_command(words):
     return run, clock, max(used.ru_utime + used.ru_stime - sum(run.seconds.values()), 0), command.returncode
 
 
-def main():
+def main() -> int:
     words = sys.argv[1:]
     if not words or words[0].startswith("-"):
         print(__doc__.split("\n\n")[1], file=sys.stderr)

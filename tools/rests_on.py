@@ -32,6 +32,7 @@ import pathlib
 import re
 import signal
 import sys
+from typing import Collection, Iterable, Iterator, Optional, Sequence, Union
 
 HOUSE = pathlib.Path(__file__).resolve().parent.parent
 CRATES = sorted(folder.name for folder in (HOUSE / "crates").iterdir() if (folder / "src").is_dir())
@@ -71,17 +72,17 @@ PREMISE = Key("ats_top", "specs/Run.antt", "Ran")
 Piece = collections.namedtuple("Piece", "numbers words")
 
 
-def words_of(text):
+def words_of(text: str) -> set[tuple[str, str]]:
     """The names in the text, each with the name after its first point."""
     return set(re.findall(rf"(?<![\w.'])({WORD})(?:\.({WORD}))?", text))
 
 
-def operators_in(text, names):
+def operators_in(text: str, names: Iterable[str]) -> set[str]:
     """Those of the names that are operators, such as ◌≡◌, and have their signs in the text."""
     return {name for name in names if "◌" in name and all(part in text for part in name.split("◌"))}
 
 
-def named(list_of_names):
+def named(list_of_names: str) -> Iterator[tuple[str, str]]:
     """The names of an import, each with its name here: `a, b as c`."""
     for part in list_of_names.split(","):
         words = part.split()
@@ -92,17 +93,17 @@ def named(list_of_names):
 class File:
     """A file's pieces by name, with the names of their members, and what is in scope."""
 
-    def __init__(self, crate, path):
+    def __init__(self, crate: str, path: str) -> None:
         self.crate = crate
         self.path = path
         self.lines = (HOUSE / "crates" / crate / path).read_text().split("\n")
         self.text = "\n".join(self.lines)
-        self.pieces = {}
-        self.functions = set()
-        self.members = {}
-        self.imports = {}
-        self.exports = set()
-        self.modules = {}
+        self.pieces: dict[str, Piece] = {}
+        self.functions: set[str] = set()
+        self.members: dict[str, str] = {}
+        self.imports: dict[str, tuple[str, str]] = {}
+        self.exports: set[str] = set()
+        self.modules: dict[str, str] = {}
         for kind, module, names, alias in GHOST_USE.findall(self.text):
             for there, here in named(names):
                 self.imports[here] = (module, there)
@@ -113,12 +114,12 @@ class File:
             if not names and not alias:
                 sys.exit(f"{crate}/{path}: an import that this script does not read: {module}")
 
-    def add(self, name, numbers, text):
+    def add(self, name: str, numbers: Sequence[int], text: str) -> None:
         """Keeps a piece that has the lines of these numbers."""
         words = words_of(text) | {(sign, "") for sign in operators_in(text, self.imports)}
         self.pieces[name] = Piece(numbers, words)
 
-    def comment_above(self, first, marks):
+    def comment_above(self, first: int, marks: Union[str, tuple[str, ...]]) -> int:
         """The number of the first of the lines above this one that begin with one of the marks."""
         while first > 0 and self.lines[first - 1].strip().startswith(marks):
             first -= 1
@@ -128,7 +129,7 @@ class File:
 # ---- files of definitions
 
 
-def defined(line, current):
+def defined(line: str, current: Optional[str]) -> Optional[str]:
     """The name whose definition begins in this line, if one does after that of `current`."""
     words = re.match(rf"((?:(?:{'|'.join(KEYWORDS)}) )*)({WORD})", line)
     if not words or words[2] in ("use", "mod") or (words[2] == current and not words[1]):
@@ -138,10 +139,10 @@ def defined(line, current):
     return words[2]
 
 
-def definitions(crate, path):
+def definitions(crate: str, path: str) -> File:
     """A file of specs/."""
     file = File(crate, path)
-    starts = []
+    starts: list[tuple[int, str]] = []
     for number, line in enumerate(file.lines):
         name = defined(line, starts[-1][1] if starts else None)
         if name:
@@ -161,11 +162,11 @@ def definitions(crate, path):
 # ---- files of code
 
 
-def code_of(lines):
+def code_of(lines: list[str]) -> str:
     return "\n".join(line.split("//")[0] for line in lines)
 
 
-def end_of_signature(lines, start):
+def end_of_signature(lines: list[str], start: int) -> int:
     """The number after the last line of the signature and the clauses of a function."""
     indent = re.match(" *", lines[start])[0]
     clauses = False
@@ -179,7 +180,7 @@ def end_of_signature(lines, start):
     sys.exit(f"a function without an end: {lines[start]}")
 
 
-def end_of_block(lines, start):
+def end_of_block(lines: list[str], start: int) -> int:
     """The number after the last line of what begins in this one with a brace or ends with a semicolon."""
     indent = re.match(" *", lines[start])[0]
     for number in range(start, len(lines)):
@@ -189,7 +190,7 @@ def end_of_block(lines, start):
     sys.exit(f"a block without an end: {lines[start]}")
 
 
-def add_clauses(file, call, start, end):
+def add_clauses(file: File, call: str, start: int, end: int) -> None:
     """The named promises of a call, each with the call's comment and its first line."""
     head = [*range(file.comment_above(start, ("//", "#")), start + 1)]
     firsts = {n: found[1] for n in range(start, end) if (found := re.match(rf"    ensures ({WORD}) {{", file.lines[n]))}
@@ -198,14 +199,14 @@ def add_clauses(file, call, start, end):
         file.add(f"{call}: {firsts[first]}", head + [*numbers], code_of([file.lines[n] for n in numbers]))
 
 
-def without_generics(text):
+def without_generics(text: str) -> str:
     text = text.replace("->", "")
     while "<" in text:
         text = re.sub(r"<[^<>]*>", "", text)
     return text
 
 
-def impls(file):
+def impls(file: File) -> Iterator[tuple[Optional[str], str, int, int]]:
     """The blocks of a file that give a type its methods: the trait if there is one, the type, and where they are."""
     for start, line in enumerate(file.lines):
         if re.match(r"(?:unsafe )?impl\b", line):
@@ -214,7 +215,7 @@ def impls(file):
             yield (head[of - 1] if of else None), head[of + 1 if of else -1], start, end_of_block(file.lines, start)
 
 
-def ghosts(file, start, end):
+def ghosts(file: File, start: int, end: int) -> Iterator[tuple[str, int, int]]:
     """The ghost members of a block, each with the numbers of its lines."""
     for number in range(start, end):
         found = re.match(rf"    ghost ({WORD}) = ", file.lines[number])
@@ -225,7 +226,7 @@ def ghosts(file, start, end):
             yield found[1], number, last + 1
 
 
-def add_contracts(file, trait, of_type, start, end):
+def add_contracts(file: File, trait: Optional[str], of_type: str, start: int, end: int) -> None:
     """The public contracts of a block: of its methods, and what a trait's ghost members are for the type."""
     head = file.lines[start]
     for number in range(start, end):
@@ -240,7 +241,7 @@ def add_contracts(file, trait, of_type, start, end):
             file.add(f"{of_type}::{trait} {name}", range(number, last), code_of([head] + file.lines[number:last]))
 
 
-def keep_value_alone(file, of_type, start, end):
+def keep_value_alone(file: File, of_type: str, start: int, end: int) -> None:
     """Contracts see this type as one value: only its comment and that value's line count."""
     for name, number, last in ghosts(file, start, end):
         if name == "Value":
@@ -249,7 +250,7 @@ def keep_value_alone(file, of_type, start, end):
             file.add(of_type, [*above, *range(number, last)], code_of(file.lines[number:last]))
 
 
-def code(crate, path):
+def code(crate: str, path: str) -> File:
     """A file of src/."""
     file = File(crate, path)
     for start, line in enumerate(file.lines):
@@ -279,7 +280,7 @@ def code(crate, path):
 class House:
     """All files of the crates, read once."""
 
-    def __init__(self):
+    def __init__(self) -> None:
         self.files = {}
         for crate in CRATES:
             folder = HOUSE / "crates" / crate
@@ -289,7 +290,7 @@ class House:
             for path in sorted(folder.glob("src/*.rt")):
                 self.files[crate, f"src/{path.name}"] = code(crate, f"src/{path.name}")
 
-    def in_definitions(self, module, name):
+    def in_definitions(self, module: str, name: str) -> Optional[Key]:
         """What the name of a module of definitions stands for, or None."""
         _, crate, *path = module.split(".")
         if crate not in CRATES or path[0] != "specs":
@@ -305,12 +306,12 @@ class House:
             return self.in_definitions(*file.imports[name])
         return None
 
-    def in_code(self, crate, module, name):
+    def in_code(self, crate: str, module: str, name: str) -> Optional[Key]:
         """What the name of a module of code stands for, or None."""
         file = self.files.get((crate, f"src/{module}.rt"))
         return Key(crate, file.path, name) if file and name in file.pieces else None
 
-    def exported(self, crate, name):
+    def exported(self, crate: str, name: str) -> Optional[Key]:
         """What the name stands for that a crate exports, or None."""
         lib = self.files.get((crate, "src/lib.rt"))
         if not lib or name not in lib.imports:
@@ -318,7 +319,7 @@ class House:
         module, there = lib.imports[name]
         return self.exported(module, there) if module in CRATES else self.in_code(crate, module, there)
 
-    def imported(self, file, path, name):
+    def imported(self, file: File, path: str, name: str) -> Optional[Key]:
         """What an import of a file stands for, or None."""
         if path.startswith("Rattle."):
             key = self.in_definitions(path, name)
@@ -330,7 +331,7 @@ class House:
             return self.in_code(file.crate, module, name)
         return self.exported(head, name) if head in CRATES else None
 
-    def resolve(self, file, name, member):
+    def resolve(self, file: File, name: str, member: str) -> Optional[Key]:
         """What a name in a file stands for, or None if it is a variable, a field or not of the house."""
         if name in file.members or (name in file.pieces and name not in file.functions):
             return Key(file.crate, file.path, file.members.get(name, name))
@@ -338,16 +339,16 @@ class House:
             return self.in_definitions(file.modules[name], member) if member else None
         return self.imported(file, *file.imports[name]) if name in file.imports else None
 
-    def is_function(self, key):
+    def is_function(self, key: Key) -> bool:
         return key.crate != "library" and key.name in self.files[key.crate, key.file].functions
 
-    def below(self, key):
+    def below(self, key: Key) -> set[Key]:
         """What a piece names. A definition or a clause never names a function of the code."""
         file = self.files[key.crate, key.file]
         found = (self.resolve(file, *word) for word in file.pieces[key.name].words)
         return {below for below in found if below and not self.is_function(below)}
 
-    def rests_on(self, keys, without=()):
+    def rests_on(self, keys: Iterable[Key], without: Iterable[Key] = ()) -> set[Key]:
         """These and all that they rest on, without following some."""
         reached = set()
         left = list(keys)
@@ -359,15 +360,15 @@ class House:
                     left += self.below(key)
         return reached
 
-    def lines(self, key):
+    def lines(self, key: Key) -> int:
         return len(self.files[key.crate, key.file].pieces[key.name].numbers)
 
-    def all_definitions(self):
+    def all_definitions(self) -> Iterator[Key]:
         for (crate, path), file in self.files.items():
             if path.startswith("specs/"):
                 yield from (Key(crate, path, name) for name in file.pieces)
 
-    def all_exported(self):
+    def all_exported(self) -> Iterator[Key]:
         """What others can name: by src/lib.rt, by a public module of it, from C, or by running a program."""
         for crate in CRATES:
             lib = self.files.get((crate, "src/lib.rt"))
@@ -381,7 +382,7 @@ class House:
                     marks = ITEM_FOR_C if path.removeprefix("src/").removesuffix(".rt") not in modules else PUBLIC_ITEM
                     yield from (Key(crate, path, name) for name in marks.findall(file.text) if name in file.pieces)
 
-    def public_contracts(self):
+    def public_contracts(self) -> set[Key]:
         """What the crates export, and the contracts of the types that are exported or named there."""
         public, left = set(), set(self.all_exported())
         while left:
@@ -390,7 +391,7 @@ class House:
             left = {contract for key in types for contract in self.contracts_of(key.crate, key.name)} - public
         return public
 
-    def contracts_of(self, crate, of_type):
+    def contracts_of(self, crate: str, of_type: str) -> Iterator[Key]:
         for (owner, path), file in self.files.items():
             if owner == crate and path.startswith("src/"):
                 yield from (Key(crate, path, name) for name in file.pieces if name.startswith(of_type + "::"))
@@ -399,7 +400,7 @@ class House:
 # ---- what is asked, and what is printed
 
 
-def asked(house, name):
+def asked(house: House, name: str) -> list[Key]:
     """The pieces that are asked for: a call or one of its clauses, or a definition, of which a command names one."""
     if name in BY_LAW:
         crate, law = "ats_top", f"{LAW}: {name}"
@@ -420,7 +421,7 @@ def asked(house, name):
     return found
 
 
-def by_file(keys):
+def by_file(keys: Iterable[Key]) -> list[tuple[tuple[str, str], list[Key]]]:
     """The pieces by crate and file, from the crate on top down; specs/ before src/."""
     order = re.findall(r"^(\w+)[ \w]*:", (HOUSE / "crates.txt").read_text(), re.M)
     groups = collections.defaultdict(list)
@@ -430,11 +431,11 @@ def by_file(keys):
     return sorted(groups.items(), key=lambda group: (-order.index(group[0][0]), group[0][1]))
 
 
-def total(house, keys):
+def total(house: House, keys: Iterable[Key]) -> int:
     return sum(map(house.lines, keys))
 
 
-def print_sum(house, keys):
+def print_sum(house: House, keys: Collection[Key]) -> None:
     """How much is in specs/ and in src/, and which modules of the library are named."""
     print()
     for folder, what in (("specs/", "definitions"), ("src/", "types and calls")):
@@ -445,14 +446,14 @@ def print_sum(house, keys):
     print("library: " + ", ".join(sorted(modules)))
 
 
-def print_long(house, keys):
+def print_long(house: House, keys: Collection[Key]) -> None:
     print("| Crate | File | Definitions | Lines |\n|---|---|---|---|")
     for (crate, path), there in by_file(keys):
         names = ", ".join(f"`{key.name}` {house.lines(key)}" for key in there)
         print(f"| {crate} | {path} | {names} | {total(house, there)} |")
 
 
-def print_short(house, keys):
+def print_short(house: House, keys: Collection[Key]) -> None:
     print("| Crate | Files, each with its lines that count | Lines |\n|---|---|---|")
     rows = collections.defaultdict(list)
     for (crate, path), there in by_file(keys):
@@ -462,9 +463,9 @@ def print_short(house, keys):
         print(f"| {crate} | {', '.join(links)} | {sum(lines for _, lines in files)} |")
 
 
-def print_crates(house, keys):
+def print_crates(house: House, keys: Collection[Key]) -> None:
     """How many lines of each crate count."""
-    lines = collections.Counter()
+    lines: "collections.Counter[str]" = collections.Counter()
     for (crate, _), there in by_file(keys):
         lines[crate] += total(house, there)
     print()
@@ -472,16 +473,16 @@ def print_crates(house, keys):
         print(f"{crate}: {count} lines")
 
 
-def inner(house):
+def inner(house: House) -> set[Key]:
     """The definitions that no public contract rests on."""
     return set(house.all_definitions()) - house.rests_on(house.public_contracts())
 
 
-def is_in_inner(key):
+def is_in_inner(key: Key) -> bool:
     return key.file.startswith("specs/Inner/")
 
 
-def print_inner(house):
+def print_inner(house: House) -> None:
     every, found = set(house.all_definitions()), inner(house)
     print_long(house, found)
     print_crates(house, found)
@@ -492,7 +493,7 @@ def print_inner(house):
         print(f"{key.crate}/{key.file}: a public contract rests on {key.name}")
 
 
-def main():
+def main() -> None:
     words = sys.argv[1:]
     house = House()
     if words == ["--inner"]:

@@ -17,20 +17,21 @@ import re
 import subprocess
 import sys
 import time
+from typing import Iterator, Union
 
 HOUSE = pathlib.Path(__file__).resolve().parent.parent
 TICKS = os.sysconf("SC_CLK_TCK")
 MOST = 20
 
 
-def fields_of(process):
+def fields_of(process: Union[int, str]) -> list[str]:
     """The fields of the process's status from its state on."""
     return pathlib.Path(f"/proc/{process}/stat").read_text().rsplit(")", 1)[1].split()
 
 
-def below(process):
+def below(process: int) -> list[int]:
     """The processes that this one or one below it started, and that run."""
-    parents = {}
+    parents: dict[int, list[int]] = {}
     for folder in pathlib.Path("/proc").glob("[0-9]*"):
         try:
             parents.setdefault(int(fields_of(folder.name)[1]), []).append(int(folder.name))
@@ -42,7 +43,7 @@ def below(process):
     return found[1:]
 
 
-def spent(process):
+def spent(process: int) -> float:
     """The seconds of processor time that the process and those below it have used, with those that ended."""
     ticks = 0
     for one in [process] + below(process):
@@ -53,7 +54,7 @@ def spent(process):
     return ticks / TICKS
 
 
-def checks_below(process):
+def checks_below(process: int) -> Iterator[list[str]]:
     """The commands of the checks that this process or one below it runs."""
     for one in below(process):
         try:
@@ -64,7 +65,7 @@ def checks_below(process):
             yield words
 
 
-def command_of(crate, flags):
+def command_of(crate: str, flags: list[str]) -> list[str]:
     """The command by which rt checks the crate with these flags."""
     started = subprocess.Popen(
         ["rt", "check", "--jobs", "1"] + flags,
@@ -86,7 +87,7 @@ def command_of(crate, flags):
     sys.exit(f"{crate}: rt check ended before its command was seen")
 
 
-def from_nothing(words):
+def from_nothing(words: list[str]) -> list[str]:
     """The command without the kept work, and with a line for each function."""
     made = []
     skip = False
@@ -100,7 +101,7 @@ def from_nothing(words):
     return made if "--progress" in made else made + ["--progress"]
 
 
-def times_of(crate, flags):
+def times_of(crate: str, flags: list[str]) -> tuple[list[tuple[float, str]], float]:
     """Each function of the crate with the processor time of its check, and the time of the whole."""
     check = subprocess.Popen(
         from_nothing(command_of(crate, flags)),
@@ -122,7 +123,7 @@ def times_of(crate, flags):
     return times, used.ru_utime + used.ru_stime
 
 
-def main():
+def main() -> int:
     flags = sys.argv[1:2] if sys.argv[1:2] == ["--test"] else []
     crates = sys.argv[1 + len(flags) :]
     if not crates or crates[0].startswith("-"):

@@ -9,6 +9,7 @@ import hashlib
 import unicodedata
 from collections import Counter
 from types import SimpleNamespace
+from typing import Any, Iterator, Optional, Union
 
 LONGEST = 2**26
 LONGEST_TEXT_FILE = 2**21
@@ -19,6 +20,15 @@ LATER = 2**32 - 1
 BLOCK = 64
 NOTHING = bytes(32)
 
+Leaf = tuple[int, bytes]  # its position, and what is hashed
+Slot = tuple[int, int]  # its kind, and an index
+Found = list[tuple[bytes, int]]  # the terms of a query, and how often it has each
+Fields = SimpleNamespace  # what was read, by its name
+Present = tuple[int, bytes, int, Fields]  # number, term, weight and leaf
+Row = tuple[int, int, int, int]  # shard, document and both bounds
+Checked = tuple[list[Row], int]  # the rows of a shard, and the most that its other documents can score
+Answer = dict[str, Any]  # the status, and the lines or the text
+
 
 class Refused(Exception):
     """The text of a line after `refused: `, `input: ` or `peer: `."""
@@ -26,16 +36,16 @@ class Refused(Exception):
 
 # Hashes and trees
 
-def digest(data):
+def digest(data: bytes) -> bytes:
     return hashlib.sha256(data).digest()
 
 
-def cut(count):
+def cut(count: int) -> int:
     """The largest power of two below the count."""
     return 2 ** ((count - 1).bit_length() - 1)
 
 
-def rebuilt(count, leaves, digests, misfit):
+def rebuilt(count: int, leaves: list[Leaf], digests: list[bytes], misfit: str) -> bytes:
     """The root of so many leaves, of which those are shown; each is a position and its bytes."""
     if any(position >= count for position, _ in leaves):
         raise Refused(misfit)
@@ -46,7 +56,7 @@ def rebuilt(count, leaves, digests, misfit):
     return root
 
 
-def node(start, count, leaves, digests):
+def node(start: int, count: int, leaves: list[Leaf], digests: Iterator[bytes]) -> Optional[bytes]:
     if not leaves:
         return next(digests, None)
     if count == 1:
@@ -59,7 +69,7 @@ def node(start, count, leaves, digests):
     return None if left is None or right is None else digest(b'\1' + left + right)
 
 
-def rebuilt_chain(count, leaves, digests, misfit):
+def rebuilt_chain(count: int, leaves: list[Leaf], digests: list[bytes], misfit: str) -> bytes:
     """The digest of a list of so many leaves in blocks, of which the first ones are shown."""
     if len(leaves) > count:
         raise Refused(misfit)
@@ -92,12 +102,12 @@ PICTOGRAPHS = {'\U0001f44d', '\U0001f600', '\u24c2'}
 WITHOUT_SPACES = ('CJK', 'HIRAGANA', 'THAI')
 
 
-def is_alphabetic(char):
+def is_alphabetic(char: str) -> bool:
     return char.isalpha() or unicodedata.category(char) == 'Nl' or '\u24b6' <= char <= '\u24e9' or char == '\u0345' or (
         char in LETTERS_LATER)
 
 
-def break_class(char):
+def break_class(char: str) -> str:
     """The Word_Break property of a character, as far as the vectors have such ones."""
     category, name = unicodedata.category(char), unicodedata.name(char, '')
     if char in MARKS:
@@ -125,9 +135,9 @@ JOINED = {'Extend', 'Format', 'ZWJ'}
 RUN = LETTERS | {'Numeric', 'Katakana', 'ExtendNumLet'}
 
 
-def words(text):
+def words(text: str) -> list[str]:
     """The pieces between the boundaries of UAX #29."""
-    pieces = []
+    pieces: list[str] = []
     for at, char in enumerate(text):
         if at > 0 and is_joined(text, at):
             pieces[-1] += char
@@ -136,7 +146,7 @@ def words(text):
     return pieces
 
 
-def is_joined(text, at):
+def is_joined(text: str, at: int) -> bool:
     """Whether the rules WB3 to WB999 leave no boundary in front of the character."""
     before, after = break_class(text[at - 1]), break_class(text[at])
     if before in BLANK or after in BLANK:
@@ -148,9 +158,9 @@ def is_joined(text, at):
     return is_joined_in_words(past(text, at), [after, *coming(text, at + 1)])
 
 
-def past(text, at):
+def past(text: str, at: int) -> list[str]:
     """The classes before this place, the nearest first, without what WB4 joins to the one before it."""
-    classes = []
+    classes: list[str] = []
     for place in range(at):
         each = break_class(text[place])
         if not classes or each not in JOINED or break_class(text[place - 1]) in BLANK:
@@ -158,12 +168,12 @@ def past(text, at):
     return classes
 
 
-def coming(text, at):
+def coming(text: str, at: int) -> list[str]:
     """The first class from this place on that WB4 does not join to the one before it."""
     return [each for each in map(break_class, text[at:]) if each not in JOINED][:1]
 
 
-def is_joined_in_words(left, right):
+def is_joined_in_words(left: list[str], right: list[str]) -> bool:
     before, after = left[0], right[0]
     two_before, two_after = (left + ['none'])[1], (right + ['none'])[1]
     if before in LETTERS | {'Numeric'} and after in LETTERS | {'Numeric'}:
@@ -188,9 +198,9 @@ def is_joined_in_words(left, right):
     return after == 'Regional_Indicator' and flags % 2 == 1
 
 
-def terms(text):
+def terms(text: str) -> Found:
     """Each term with its count in the text, in byte order."""
-    counts = Counter()
+    counts: Counter[bytes] = Counter()
     for word in words(text):
         if any(is_alphabetic(char) or unicodedata.category(char) in ('Nd', 'Nl', 'No') for char in word):
             term = ''.join(FOLDED_LATER.get(char, char.casefold()) for char in word).encode()
@@ -198,7 +208,7 @@ def terms(text):
     return sorted(counts.items())
 
 
-def terms_of_query(query):
+def terms_of_query(query: str) -> Found:
     size = len(query.encode())
     if size > 4000:
         raise Refused(f'query of {size} bytes')
@@ -213,7 +223,7 @@ def terms_of_query(query):
     return found
 
 
-def terms_of_question(r, query):
+def terms_of_question(r: int, query: str) -> Found:
     if not 1 <= r <= 1000:
         raise Refused(f'r {r}')
     return terms_of_query(query)
@@ -221,7 +231,7 @@ def terms_of_question(r, query):
 
 # The numbers of a term
 
-def idf(documents, having):
+def idf(documents: int, having: int) -> int:
     q = 1024 * (2 * documents + 2) // (2 * having + 1)
     if q < 1024:
         return 1
@@ -229,7 +239,7 @@ def idf(documents, having):
     return 1 + 8 * e + sum(each <= q >> e for each in (1117, 1218, 1328, 1448, 1579, 1722, 1878))
 
 
-def impact(count, length, terms_of_all, documents):
+def impact(count: int, length: int, terms_of_all: int, documents: int) -> int:
     return 1 + 22000 * count * terms_of_all // ((10 * count + 3) * terms_of_all + 9 * length * documents)
 
 
@@ -238,60 +248,60 @@ def impact(count, length, terms_of_all, documents):
 class Reader:
     """Reads the fields of a file. Each is tried whether it is there, and then for its range."""
 
-    def __init__(self, data, longest=LONGEST):
+    def __init__(self, data: bytes, longest: int = LONGEST) -> None:
         if len(data) > longest:
             raise Refused(f'shape long {longest}')
         self.data, self.at = data, 0
 
-    def end(self):
+    def end(self) -> None:
         if self.at < len(self.data):
             raise Refused(f'shape trailing {self.at}')
 
-    def take(self, size):
+    def take(self, size: int) -> bytes:
         if len(self.data) - self.at < size:
             raise Refused(f'shape cut {self.at}')
         self.at += size
         return self.data[self.at - size:self.at]
 
-    def number(self, size, least=0, most=LATER, kind='count'):
+    def number(self, size: int, least: int = 0, most: int = LATER, kind: str = 'count') -> int:
         start = self.at
         value = int.from_bytes(self.take(size), 'big')
         if not least <= value <= most:
             raise Refused(f'shape {kind} {start}')
         return value
 
-    def digests(self, size, most=LATER):
+    def digests(self, size: int, most: int = LATER) -> list[bytes]:
         return [self.take(32) for _ in range(self.number(size, 0, most))]
 
-    def format(self):
+    def format(self) -> int:
         return self.number(1, 1, 2, 'version')
 
-    def header(self):
+    def header(self) -> Fields:
         """The numbers and roots of a header, and its bytes."""
         start = self.at
         self.number(1, 1, 1, 'version')
         documents, size = self.number(4, 1, 65536), self.number(4, 2, 16777218)
         roots = [self.take(32) for _ in range(3)]
-        return SimpleNamespace(documents=documents, size=size, roots=roots, data=self.data[start:self.at])
+        return Fields(documents=documents, size=size, roots=roots, data=self.data[start:self.at])
 
-    def term(self):
+    def term(self) -> tuple[bytes, bytes]:
         """The term, and its bytes from its length on."""
         start = self.at
         term = self.take(self.number(1, 0, 64))
         return term, self.data[start:self.at]
 
-    def leaves(self, rest):
+    def leaves(self, rest: list[int]) -> list[Fields]:
         """Leaves with terms: each has a position, a term, what follows it, and the bytes that are hashed."""
         leaves, least = [], 0
         for _ in range(self.number(2, 1, 64)):
             position = self.number(4, least, LATER, 'order')
             term, data = self.term()
             values = [self.take(size) for size in rest]
-            leaves.append(SimpleNamespace(position=position, term=term, values=values, data=data + b''.join(values)))
+            leaves.append(Fields(position=position, term=term, values=values, data=data + b''.join(values)))
             least = position + 1
         return leaves
 
-    def slots(self, count):
+    def slots(self, count: int) -> list[Slot]:
         slots, least = [], 0
         for _ in range(count):
             kind = self.number(1, 0, 1)
@@ -299,30 +309,30 @@ class Reader:
             slots.append((kind, least))
         return slots
 
-    def met(self):
+    def met(self) -> list[int]:
         met, least = [], 0
         for _ in range(self.number(4, 0, 65536)):
             met.append(self.number(4, least, LATER, 'order'))
             least = met[-1] + 1
         return met
 
-    def list(self):
+    def prefix(self) -> Fields:
         entries = [(self.number(4), self.number(2)) for _ in range(self.number(4, 1, 65536))]
-        return SimpleNamespace(entries=entries, digests=self.digests(2))
+        return Fields(entries=entries, digests=self.digests(2))
 
-    def section(self, present):
+    def section(self, present: int) -> Fields:
         leaves = self.leaves([2])
-        return SimpleNamespace(leaves=leaves, digests=self.digests(2), slots=self.slots(present))
+        return Fields(leaves=leaves, digests=self.digests(2), slots=self.slots(present))
 
-    def proof(self):
+    def proof(self) -> Fields:
         self.number(4, 0x41545350, 0x41545350, 'magic')
-        proof = SimpleNamespace(format=self.format(), is_tra=self.number(1, 1, 2, 'algorithm') == 1)
+        proof = Fields(format=self.format(), is_tra=self.number(1, 1, 2, 'algorithm') == 1)
         proof.header = self.header()
         proof.terms = self.number(2, 1, 32)
-        proof.dictionary = SimpleNamespace(leaves=self.leaves([4, 32]), digests=self.digests(2), slots=self.slots(proof.terms))
+        proof.dictionary = Fields(leaves=self.leaves([4, 32]), digests=self.digests(2), slots=self.slots(proof.terms))
         present = sum(kind for kind, _ in proof.dictionary.slots)
         proof.met = self.met()
-        proof.lists = [self.list() for _ in range(present)]
+        proof.lists = [self.prefix() for _ in range(present)]
         if proof.is_tra:
             proof.document_leaves = [self.take(4) + self.take(32) for _ in proof.met]
             proof.document_digests = self.digests(4, 65536)
@@ -331,10 +341,10 @@ class Reader:
         self.end()
         return proof
 
-    def archive(self):
-        return SimpleNamespace(format=self.format(), header=self.header())
+    def archive(self) -> Fields:
+        return Fields(format=self.format(), header=self.header())
 
-    def text(self):
+    def text(self) -> Fields:
         self.number(4, 0x41545346, 0x41545346, 'magic')
         given = self.archive()
         given.text = self.take(self.number(4, 0, LONGEST_TEXT))
@@ -342,13 +352,13 @@ class Reader:
         self.end()
         return given
 
-    def growth(self):
+    def growth(self) -> Fields:
         self.number(4, 0x41545347, 0x41545347, 'magic')
-        shown = SimpleNamespace(old=self.archive(), new=self.archive(), digests=self.digests(1, 64))
+        shown = Fields(old=self.archive(), new=self.archive(), digests=self.digests(1, 64))
         self.end()
         return shown
 
-    def catalog(self):
+    def catalog(self) -> list[tuple[bytes, bytes]]:
         """The root of each shard, and the bytes of its proof."""
         self.number(4, 0x41545353, 0x41545353, 'magic')
         self.number(1, 1, 1, 'version')
@@ -360,13 +370,13 @@ class Reader:
 
 # The check
 
-def check_root(archive, root, why='other-root'):
+def check_root(archive: Fields, root: bytes, why: str = 'other-root') -> None:
     """The archive's format and header are those of the root."""
     if digest((b'\2' if archive.format == 1 else b'\4') + archive.header.data) != root:
         raise Refused(why)
 
 
-def shows(section, slot, term):
+def shows(section: Fields, slot: Slot, term: bytes) -> bool:
     kind, index = slot
     leaves = section.leaves[index:index + 2]
     if kind == 1:
@@ -374,7 +384,7 @@ def shows(section, slot, term):
     return len(leaves) == 2 and leaves[1].position == leaves[0].position + 1 and leaves[0].term < term < leaves[1].term
 
 
-def check_dictionary(proof, found):
+def check_dictionary(proof: Fields, found: Found) -> None:
     if proof.terms != len(found):
         raise Refused(f'slot-count {proof.terms}')
     section = proof.dictionary
@@ -386,7 +396,7 @@ def check_dictionary(proof, found):
             raise Refused(f'slot-wrong {at}')
 
 
-def check_list(proof, at, shown, leaf):
+def check_list(proof: Fields, at: int, shown: Fields, leaf: Fields) -> set[int]:
     met, named = proof.met, set()
     for entry, (place, _) in enumerate(shown.entries):
         if place >= len(met):
@@ -403,7 +413,7 @@ def check_list(proof, at, shown, leaf):
     return named
 
 
-def check_lists(proof, present):
+def check_lists(proof: Fields, present: list[Present]) -> None:
     named = set()
     for (at, _, _, leaf), shown in zip(present, proof.lists):
         named |= check_list(proof, at, shown, leaf)
@@ -412,7 +422,7 @@ def check_lists(proof, present):
             raise Refused(f'unmet {index}')
 
 
-def check_documents(proof, present):
+def check_documents(proof: Fields, present: list[Present]) -> None:
     if not proof.is_tra:
         return
     leaves = list(zip(proof.met, proof.document_leaves))
@@ -427,7 +437,7 @@ def check_documents(proof, present):
                 raise Refused(f'term-slot {document} {at}')
 
 
-def check_rows(proof):
+def check_rows(proof: Fields) -> None:
     for row, place in enumerate(proof.rows):
         if place >= len(proof.met):
             raise Refused(f'answer-out {row}')
@@ -437,7 +447,7 @@ def check_rows(proof):
 
 # The answer
 
-def bounds(proof, coefficients, rests):
+def bounds(proof: Fields, coefficients: list[int], rests: list[int]) -> tuple[list[int], list[int]]:
     """The two bounds of each met document."""
     lows, highs = [0] * len(proof.met), [sum(rests)] * len(proof.met)
     if proof.is_tra:
@@ -453,7 +463,7 @@ def bounds(proof, coefficients, rests):
     return lows, [low + high for low, high in zip(lows, highs)]
 
 
-def check_settled(proof, r, lows, highs, threshold):
+def check_settled(proof: Fields, r: int, lows: list[int], highs: list[int], threshold: int) -> None:
     rows, others = proof.rows, set(range(len(proof.met))) - set(proof.rows)
     is_settled = len(rows) <= r and (len(rows) == r or not others and threshold == 0)
     is_settled = is_settled and all(highs[row] <= lows[before] for before, row in zip(rows, rows[1:]))
@@ -464,7 +474,7 @@ def check_settled(proof, r, lows, highs, threshold):
         raise Refused('not-settled')
 
 
-def check_shown(proof, root, found):
+def check_shown(proof: Fields, root: bytes, found: Found) -> tuple[list[Present], list[int]]:
     """Checks all before the rows. Returns number, term, weight and leaf of each present term, and how many documents have it."""
     check_root(proof, root)
     check_dictionary(proof, found)
@@ -476,7 +486,7 @@ def check_shown(proof, root, found):
     return present, [int.from_bytes(leaf.values[0], 'big') for _, _, _, leaf in present]
 
 
-def scored(proof, root, found):
+def scored(proof: Fields, root: bytes, found: Found) -> tuple[list[int], list[int], int]:
     """Checks all but the last step. Returns the two bounds of each met document, and the threshold."""
     present, counts = check_shown(proof, root, found)
     check_rows(proof)
@@ -486,14 +496,14 @@ def scored(proof, root, found):
     return (*bounds(proof, coefficients, rests), sum(rests))
 
 
-def answer(proof, root, r, found):
+def answer(proof: Fields, root: bytes, r: int, found: Found) -> list[str]:
     """The rows of an accepted proof."""
     lows, highs, threshold = scored(proof, root, found)
     check_settled(proof, r, lows, highs, threshold)
     return [f'{rank} {proof.met[row]} {lows[row]} {highs[row]}' for rank, row in enumerate(proof.rows, 1)]
 
 
-def verify(root, r, query, data):
+def verify(root: str, r: int, query: str, data: bytes) -> Answer:
     """The status and the lines."""
     try:
         found = terms_of_question(r, query)
@@ -507,12 +517,12 @@ def verify(root, r, query, data):
 
 # Catalogs
 
-def catalog_root(roots):
+def catalog_root(roots: list[bytes]) -> bytes:
     header = b'ATSC\1' + len(roots).to_bytes(4, 'big') + rebuilt(len(roots), list(enumerate(roots)), [], 'none')
     return digest(b'\2' + header)
 
 
-def shard(number, root, data, found):
+def shard(number: int, root: bytes, data: bytes, found: Found) -> Checked:
     """The rows of a shard, each with its number, and the most that another of its documents can score."""
     try:
         proof = Reader(data).proof()
@@ -524,7 +534,7 @@ def shard(number, root, data, found):
     return rows, max([threshold, *(highs[each] for each in others)])
 
 
-def merged(shards):
+def merged(shards: list[Checked]) -> list[Row]:
     """Of the next rows of all shards the best, until none is left."""
     rows, waiting = [], [list(rows) for rows, _ in shards]
     while any(waiting):
@@ -533,7 +543,7 @@ def merged(shards):
     return rows
 
 
-def answer_of_all(shards, root, r, found):
+def answer_of_all(shards: list[tuple[bytes, bytes]], root: bytes, r: int, found: Found) -> list[str]:
     """The rows of an accepted proof of a catalog."""
     if catalog_root([each for each, _ in shards]) != root:
         raise Refused('other-root')
@@ -546,7 +556,7 @@ def answer_of_all(shards, root, r, found):
     return [' '.join(map(str, (rank, *row))) for rank, row in enumerate(rows, 1)]
 
 
-def catalog(root, r, query, data):
+def catalog(root: str, r: int, query: str, data: bytes) -> Answer:
     """The status and the lines."""
     try:
         found = terms_of_question(r, query)
@@ -560,7 +570,7 @@ def catalog(root, r, query, data):
 
 # All documents with every term
 
-def check_both(proof, root, found):
+def check_both(proof: Fields, root: bytes, found: Found) -> None:
     if not proof.is_tra:
         raise Refused('not-tra')
     if proof.rows:
@@ -571,14 +581,14 @@ def check_both(proof, root, found):
         raise Refused('no-whole-list')
 
 
-def both_documents(proof):
+def both_documents(proof: Fields) -> list[int]:
     """The met documents that have every term of the query: none if a term is absent."""
     if any(kind == 0 for kind, _ in proof.dictionary.slots):
         return []
     return [document for document, section in zip(proof.met, proof.sections) if all(kind == 1 for kind, _ in section.slots)]
 
 
-def both(root, query, data):
+def both(root: str, query: str, data: bytes) -> Answer:
     """The status and the lines."""
     try:
         found = terms_of_query(query)
@@ -594,7 +604,7 @@ def both(root, query, data):
 
 # The text of a document
 
-def own_text(given, root, document):
+def own_text(given: Fields, root: bytes, document: int) -> bytes:
     """The text, if it is that of the document under the root."""
     header, digests = given.header, given.digests
     check_root(given, root)
@@ -605,7 +615,7 @@ def own_text(given, root, document):
     return given.text
 
 
-def fetch(root, document, data):
+def fetch(root: str, document: int, data: bytes) -> Answer:
     """The status, and the text or the lines. The text is printed as it is, with a line feed after it."""
     try:
         return {'status': 0, 'text': own_text(Reader(data, LONGEST_TEXT_FILE).text(), bytes.fromhex(root), document)}
@@ -615,7 +625,7 @@ def fetch(root, document, data):
 
 # Growth
 
-def needed(old, new, is_known=True):
+def needed(old: int, new: int, is_known: bool = True) -> int:
     """How many digests show that the first `old` of `new` texts are the old ones."""
     if old == new:
         return 0 if is_known else 1
@@ -623,7 +633,7 @@ def needed(old, new, is_known=True):
     return 1 + (needed(old, half, is_known) if old <= half else needed(old - half, new - half, False))
 
 
-def pair(root, old, new, digests, is_known=True):
+def pair(root: bytes, old: int, new: int, digests: list[bytes], is_known: bool = True) -> tuple[bytes, bytes]:
     """The digests of the old part and of the new one. `root` is that of all old texts."""
     if old == new:
         whole = root if is_known else digests[0]
@@ -636,7 +646,7 @@ def pair(root, old, new, digests, is_known=True):
     return digest(b'\1' + last + before), digest(b'\1' + last + after)
 
 
-def grown(shown, old_root, new_root):
+def grown(shown: Fields, old_root: bytes, new_root: bytes) -> tuple[int, int]:
     """The two numbers of documents, if nothing was withdrawn."""
     check_root(shown.old, old_root, 'other-old')
     check_root(shown.new, new_root, 'other-new')
@@ -653,7 +663,7 @@ def grown(shown, old_root, new_root):
     return old.documents, new.documents
 
 
-def growth(old_root, new_root, data):
+def growth(old_root: str, new_root: str, data: bytes) -> Answer:
     """The status and the lines."""
     try:
         shown = Reader(data, LONGEST_GROWTH).growth()
@@ -668,16 +678,16 @@ def growth(old_root, new_root, data):
 ALGORITHMS = {'tra': 1, 'tnra': 2}
 
 
-def framed(body):
+def framed(body: bytes) -> bytes:
     return len(body).to_bytes(4, 'big') + body
 
 
-def request(algorithm, r, query):
+def request(algorithm: str, r: int, query: str) -> bytes:
     text = query.encode()
     return framed(bytes([1, ALGORITHMS[algorithm]]) + r.to_bytes(2, 'big') + len(text).to_bytes(2, 'big') + text)
 
 
-def proof_of_reply(data):
+def proof_of_reply(data: bytes) -> bytes:
     """The bytes of the proof that a reply has."""
     if len(data) < 4:
         raise Refused(f'short {len(data)} 4')
@@ -695,7 +705,7 @@ def proof_of_reply(data):
     return data[5:4 + size]
 
 
-def ask(root, r, query, data):
+def ask(root: str, r: int, query: str, data: bytes) -> Answer:
     """The status and the lines of `ask` when these bytes come and then the link ends."""
     try:
         proof = proof_of_reply(data)
@@ -704,9 +714,10 @@ def ask(root, r, query, data):
     return verify(root, r, query, proof)
 
 
-def requests(data):
+def requests(data: bytes) -> tuple[list[bytes], str]:
     """The bodies of the frames that come over a link, and how it ends."""
-    bodies, at = [], 0
+    bodies: list[bytes] = []
+    at = 0
     while at < len(data) and len(bodies) < 65536:
         size = int.from_bytes(data[at:at + 4], 'big')
         if len(data) - at >= 4 and not 6 <= size <= 4096:
@@ -718,7 +729,7 @@ def requests(data):
     return bodies, 'limit' if len(bodies) == 65536 else 'end'
 
 
-def question(body):
+def question(body: bytes) -> Union[int, tuple[str, int, str]]:
     """The algorithm, the number of rows and the query of a request; or the code of the reply."""
     version, algorithm, r, size = body[0], body[1], int.from_bytes(body[2:4], 'big'), int.from_bytes(body[4:6], 'big')
     try:

@@ -7,6 +7,8 @@ that this script makes itself. The changes of honest proofs, and the trees that 
 expected results are those of `client.py`. If the program gives any other, this script stops and writes no further
 file. README.md explains the files. The script needs only Python's standard library.
 """
+from __future__ import annotations
+
 import copy
 import functools
 import hashlib
@@ -16,6 +18,7 @@ import sys
 import tempfile
 from dataclasses import dataclass, field
 from pathlib import Path
+from typing import Any, Callable, Collection, Iterable, Iterator, Optional, Sequence, TypeVar, Union
 
 import blocks
 import client
@@ -30,56 +33,67 @@ BLOCK = 64
 ONE, TWO = 1, 2
 HEADER_TAGS = {ONE: b'\2', TWO: b'\4'}
 
+T = TypeVar('T')
+Entry = dict[str, Any]  # what a file of vectors has of one of them
+Parts = list[list[Any]]  # long bytes: see below
+Pair = tuple[int, int]
+Piece = tuple[str, bytes]
+Named = Iterator[Piece]  # bytes, each with what they are
+Archives = dict[int, dict[str, 'Archive']]  # by format and name
+Change = Callable[['Proof', 'Archive'], Any]
+Shown = tuple[str, 'Made', int, str]  # what it shows, and its question
+Whole = Union['Proof', 'Given', 'Grown', 'Catalog']  # what has fields
+
 
 # The program
 
 class Program:
     """The program over files in a folder of its own."""
 
-    def __init__(self, path, folder):
+    def __init__(self, path: Path, folder: str) -> None:
         self.path = str(path)
         self.folder = Path(folder)
-        self.errors = None
+        self.errors: Optional[int] = None
 
-    def run(self, *words):
+    def run(self, *words: str) -> tuple[int, str]:
         done = subprocess.run([self.path, *words], cwd=self.folder, stdout=subprocess.PIPE, stderr=self.errors, check=False)
         self.errors = subprocess.DEVNULL  # ./ats says at each call that its build is not proved, and once is enough
         return done.returncode, done.stdout.decode()
 
-    def done(self, *words):
+    def done(self, *words: str) -> str:
         status, text = self.run(*words)
         if status != 0:
             raise SystemExit(f'{words}: status {status}: {text}')
         return text
 
-    def build(self, texts):
+    def build(self, texts: list[str]) -> tuple[bytes, str]:
         """The bytes of the index, and the root in hexadecimal."""
         (self.folder / 'collection').write_text(json.dumps(texts), encoding='ascii')
         root = self.done('build', 'collection', 'index').strip()
         return (self.folder / 'index').read_bytes(), root
 
-    def migrate(self, index):
+    def migrate(self, index: bytes) -> tuple[bytes, str]:
         """The bytes of the index of the same texts in format TWO, and the root in hexadecimal."""
         (self.folder / 'index').write_bytes(index)
         root = self.done('migrate', 'index', 'index').strip()
         return (self.folder / 'index').read_bytes(), root
 
-    def rank(self, r, query):
+    def rank(self, r: int, query: str) -> str:
         return self.done('rank', 'collection', str(r), query)
 
-    def prove(self, index, algorithm, r, query):
+    def prove(self, index: bytes, algorithm: str, r: int, query: str) -> bytes:
         (self.folder / 'index').write_bytes(index)
         self.done('prove', 'index', algorithm, str(r), query, 'proof')
         return (self.folder / 'proof').read_bytes()
 
-    def verify(self, root, r, query, proof):
+    def verify(self, root: str, r: int, query: str, proof: bytes) -> Entry:
         """The status and the lines."""
         (self.folder / 'proof').write_bytes(proof)
         status, text = self.run('verify', root, str(r), query, 'proof')
         return agreed((root, r, query), {'status': status, 'lines': text.splitlines()}, client.verify(root, r, query, proof))
 
 
-def agreed(about, told, wanted):
+def agreed(about: object, told: Any, wanted: T) -> T:
     """The result of the second client, which must be that of the program."""
     if told != wanted:
         raise SystemExit(f'{about}: the program prints {told}, and the second client {wanted}')
@@ -88,27 +102,27 @@ def agreed(about, told, wanted):
 
 # Trees
 
-def digest(data):
+def digest(data: bytes) -> bytes:
     return hashlib.sha256(data).digest()
 
 
-def number(value, size):
+def number(value: int, size: int) -> bytes:
     return value.to_bytes(size, 'big')
 
 
-def split(count):
+def split(count: int) -> int:
     """The largest power of two below the count."""
     return 1 << ((count - 1).bit_length() - 1)
 
 
-def tree_root(leaves):
+def tree_root(leaves: list[bytes]) -> bytes:
     if len(leaves) == 1:
         return digest(b'\0' + leaves[0])
     middle = split(len(leaves))
     return digest(b'\1' + tree_root(leaves[:middle]) + tree_root(leaves[middle:]))
 
 
-def elided(leaves, shown, start=0):
+def elided(leaves: list[bytes], shown: Collection[int], start: int = 0) -> list[bytes]:
     """The digests of the maximal subtrees without a shown position, from left to right."""
     if not any(start <= at < start + len(leaves) for at in shown):
         return [tree_root(leaves)]
@@ -118,7 +132,7 @@ def elided(leaves, shown, start=0):
     return elided(leaves[:middle], shown, start) + elided(leaves[middle:], shown, start + middle)
 
 
-def rebuilt(count, shown, digests, start=0):
+def rebuilt(count: int, shown: list[tuple[int, bytes]], digests: list[bytes], start: int = 0) -> bytes:
     """The root of `count` leaves, of which some are shown as pairs; the digests are taken from left to right."""
     if not shown:
         return digests.pop(0)
@@ -130,12 +144,12 @@ def rebuilt(count, shown, digests, start=0):
     return digest(b'\1' + left + right)
 
 
-def link(root, after):
+def link(root: bytes, after: bytes) -> bytes:
     """The digest of the string of a block."""
     return digest(b'\3' + root + after)
 
 
-def chain_root(leaves):
+def chain_root(leaves: list[bytes]) -> bytes:
     """The digest of a list in blocks."""
     after = NOTHING
     for start in reversed(range(0, len(leaves), BLOCK)):
@@ -143,11 +157,11 @@ def chain_root(leaves):
     return after
 
 
-def list_root(version, leaves):
+def list_root(version: int, leaves: list[bytes]) -> bytes:
     return tree_root(leaves) if version == ONE else chain_root(leaves)
 
 
-def list_digests(version, leaves, count):
+def list_digests(version: int, leaves: list[bytes], count: int) -> list[bytes]:
     """The digests that the first `count` leaves of a list need."""
     if version == ONE:
         return elided(leaves, range(count))
@@ -156,7 +170,7 @@ def list_digests(version, leaves, count):
     return elided(block, range(count - start)) + ([chain_root(after)] if after else [])
 
 
-def rebuilt_list(version, count, shown, digests):
+def rebuilt_list(version: int, count: int, shown: list[bytes], digests: list[bytes]) -> bytes:
     """The root of a list of `count` leaves, of which the first ones are shown."""
     if version == ONE:
         return rebuilt(count, list(enumerate(shown)), digests)
@@ -168,23 +182,23 @@ def rebuilt_list(version, count, shown, digests):
     return after
 
 
-def dictionary_leaf(term, count, root):
+def dictionary_leaf(term: bytes, count: int, root: bytes) -> bytes:
     return number(len(term), 1) + term + number(count, 4) + root
 
 
-def terms_leaf(term, impact):
+def terms_leaf(term: bytes, impact: int) -> bytes:
     return number(len(term), 1) + term + number(impact, 2)
 
 
-def list_leaf(document, impact):
+def list_leaf(document: int, impact: int) -> bytes:
     return number(document, 4) + number(impact, 2)
 
 
-def documents_leaf(count, root):
+def documents_leaf(count: int, root: bytes) -> bytes:
     return number(count, 4) + root
 
 
-def root_of_header(version, header):
+def root_of_header(version: int, header: Header) -> str:
     return digest(HEADER_TAGS[version] + header.data()).hex()
 
 
@@ -194,12 +208,12 @@ class Archive:
     """What the bytes of an index say, with all trees made again in the format of its version. Its root, which the
     program has printed, must be the one that these trees give."""
 
-    def __init__(self, index, printed):
+    def __init__(self, index: bytes, printed: str) -> None:
         self.index = index
         self.version = index[4]
         self.at = 5
         self.texts = [self.take(self.number(4)) for _ in range(self.number(4))]
-        self.lists = {}
+        self.lists: dict[bytes, list[Pair]] = {}
         for _ in range(self.number(4)):
             term = self.take(self.number(1))
             self.lists[term] = [(self.number(4), self.number(2)) for _ in range(self.number(4))]
@@ -208,41 +222,41 @@ class Archive:
         if not self.root == told == printed:
             raise SystemExit('the root of this script is not the root of the program')
 
-    def take(self, size):
+    def take(self, size: int) -> bytes:
         self.at += size
         return self.index[self.at - size:self.at]
 
-    def number(self, size):
+    def number(self, size: int) -> int:
         return int.from_bytes(self.take(size), 'big')
 
-    def make_trees(self):
-        entries = [(term, len(entries), list_root(self.version, self.list_leaves(term)))
-                   for term, entries in sorted(self.lists.items())]
-        self.dictionary = [(b'', 0, NOTHING), *entries, (b'\xff', 0, NOTHING)]
-        self.documents = [[(b'', 0)] for _ in self.texts]
+    def make_trees(self) -> None:
+        terms = [(term, len(entries), list_root(self.version, self.list_leaves(term)))
+                 for term, entries in sorted(self.lists.items())]
+        self.dictionary = [(b'', 0, NOTHING), *terms, (b'\xff', 0, NOTHING)]
+        self.documents: list[list[tuple[bytes, int]]] = [[(b'', 0)] for _ in self.texts]
         for term, entries in sorted(self.lists.items()):
             for document, impact in entries:
                 self.documents[document].append((term, impact))
-        for terms in self.documents:
-            terms.append((b'\xff', 0))
-        self.document_leaves = [documents_leaf(len(terms), tree_root([terms_leaf(*leaf) for leaf in terms]))
-                                for terms in self.documents]
+        for own in self.documents:
+            own.append((b'\xff', 0))
+        self.document_leaves = [documents_leaf(len(own), tree_root([terms_leaf(*leaf) for leaf in own]))
+                                for own in self.documents]
         roots = [tree_root([dictionary_leaf(*leaf) for leaf in self.dictionary]), tree_root(self.document_leaves),
                  tree_root(self.texts)]
         self.header = Header(1, len(self.texts), len(self.dictionary), roots)
         self.root = root_of_header(self.version, self.header)
 
-    def list_leaves(self, term):
+    def list_leaves(self, term: bytes) -> list[bytes]:
         return [list_leaf(*entry) for entry in self.lists[term]]
 
-    def terms_section(self, document, positions):
+    def terms_section(self, document: int, positions: Collection[int]) -> tuple[list[tuple[int, bytes, int]], list[bytes]]:
         """Leaves and digests of a document's terms, of which these positions are shown."""
         terms = self.documents[document]
         leaves = [(at, *terms[at]) for at in positions]
         return leaves, elided([terms_leaf(*leaf) for leaf in terms], positions)
 
 
-def migrated(program, archive):
+def migrated(program: Program, archive: Archive) -> Archive:
     """The same texts in format TWO. The bytes of the index may differ in the version and in the root alone."""
     other = Archive(*program.migrate(archive.index))
     if other.index != archive.index[:4] + number(TWO, 1) + archive.index[5:-32] + bytes.fromhex(other.root):
@@ -259,10 +273,10 @@ class Header:
     leaves: int
     roots: list
 
-    def data(self):
+    def data(self) -> bytes:
         return b''.join(data for _, data in self.fields())
 
-    def fields(self):
+    def fields(self) -> Named:
         yield 'version of the header', number(self.version, 1)
         yield 'number of documents', number(self.documents, 4)
         yield 'number of dictionary leaves', number(self.leaves, 4)
@@ -300,13 +314,13 @@ class Proof:
     rows: list = field(default_factory=list)
     version: int = ONE
 
-    def root(self):
+    def root(self) -> str:
         return root_of_header(self.version, self.header)
 
-    def data(self):
+    def data(self) -> bytes:
         return b''.join(data for _, data in self.fields())
 
-    def fields(self):
+    def fields(self) -> Named:
         """Each field's name and bytes, in order."""
         yield 'magic', b'ATSP'
         yield 'version', number(self.version, 1)
@@ -336,7 +350,7 @@ class Proof:
         for row in self.rows:
             yield 'row: place among the met documents', number(row, 4)
 
-    def document_fields(self):
+    def document_fields(self) -> Named:
         for count, root in self.documents:
             yield 'documents leaf: number of leaves of its terms', number(count, 4)
             yield 'documents leaf: root of its terms', root
@@ -351,18 +365,18 @@ class Proof:
             yield from slot_fields('terms slot', section.slots)
 
 
-def term_fields(name, term):
+def term_fields(name: str, term: bytes) -> Named:
     yield f'{name}: length of the term', number(len(term), 1)
     yield f'{name}: term', term
 
 
-def digest_fields(name, digests, size):
+def digest_fields(name: str, digests: list[bytes], size: int) -> Named:
     yield f'{name}: number of digests', number(len(digests), size)
     for each in digests:
         yield f'{name}: digest', each
 
 
-def slot_fields(name, slots):
+def slot_fields(name: str, slots: list[Pair]) -> Named:
     for kind, index in slots:
         yield f'{name}: kind', number(kind, 1)
         yield f'{name}: index', number(index, 2)
@@ -371,24 +385,24 @@ def slot_fields(name, slots):
 class Reader:
     """Reads the bytes of an honest proof."""
 
-    def __init__(self, data):
+    def __init__(self, data: bytes) -> None:
         self.data = data
         self.at = 4
 
-    def take(self, size):
+    def take(self, size: int) -> bytes:
         self.at += size
         return self.data[self.at - size:self.at]
 
-    def number(self, size):
+    def number(self, size: int) -> int:
         return int.from_bytes(self.take(size), 'big')
 
-    def digests(self, size):
+    def digests(self, size: int) -> list[bytes]:
         return [self.take(32) for _ in range(self.number(size))]
 
-    def slots(self, count):
+    def slots(self, count: int) -> list[Pair]:
         return [(self.number(1), self.number(2)) for _ in range(count)]
 
-    def proof(self):
+    def proof(self) -> Proof:
         version, algorithm = self.number(1), self.number(1)
         header = Header(self.number(1), self.number(4), self.number(4), [self.take(32) for _ in range(3)])
         terms = self.number(2)
@@ -409,16 +423,16 @@ class Reader:
             raise SystemExit('this script encodes a proof otherwise than the program')
         return proof
 
-    def prefix(self):
+    def prefix(self) -> Prefix:
         entries = [(self.number(4), self.number(2)) for _ in range(self.number(4))]
         return Prefix(entries, self.digests(2))
 
-    def section(self, present):
+    def section(self, present: int) -> Section:
         leaves = [(self.number(4), self.take(self.number(1)), self.number(2)) for _ in range(self.number(2))]
         return Section(leaves, self.digests(2), self.slots(present))
 
 
-def with_places(proof):
+def with_places(proof: Whole) -> Iterator[tuple[str, int, int]]:
     """Each field's name, first byte and end."""
     at = 0
     for name, data in proof.fields():
@@ -426,13 +440,13 @@ def with_places(proof):
         at += len(data)
 
 
-def patched(data, changes):
+def patched(data: bytes, changes: list[list[Any]]) -> bytes:
     for start, end, hexadecimal in reversed(changes):
         data = data[:start] + bytes.fromhex(hexadecimal) + data[end:]
     return data
 
 
-def difference(old, new):
+def difference(old: bytes, new: bytes) -> list[list[Any]]:
     """One change that turns the old bytes into the new ones, without what they have in common at both ends."""
     start = 0
     while start < min(len(old), len(new)) and old[start] == new[start]:
@@ -445,7 +459,7 @@ def difference(old, new):
 
 # The collections and the questions
 
-def drawn_texts():
+def drawn_texts() -> list[str]:
     """Texts of small words, of which few are frequent and many are rare."""
     state, texts = 1, []
     for document in range(40):
@@ -512,11 +526,11 @@ QUESTIONS = {
 IN_BLOCKS = ['two terms', 'one of many copies']
 
 
-def honest(program, archives):
+def honest(program: Program, archives: Archives) -> dict[str, Entry]:
     """Each question by each algorithm, with the proof and the lines that verify prints for it."""
-    proofs = {}
+    proofs: dict[str, Entry] = {}
 
-    def tell(name, version, algorithm, data):
+    def tell(name: str, version: int, algorithm: str, data: bytes) -> None:
         archive, r, query = QUESTIONS[name]
         root = archives[version][archive].root
         told = program.verify(root, r, query, data)
@@ -535,7 +549,7 @@ def honest(program, archives):
     return proofs
 
 
-def honest_in_both(program, archives, name, algorithm, r, query):
+def honest_in_both(program: Program, archives: Archives, name: str, algorithm: str, r: int, query: str) -> tuple[bytes, bytes]:
     """The program's proofs of both formats. Only the lists' digests differ, and what follows from them."""
     one, two = (program.prove(archives[version][name].index, algorithm, r, query) for version in (ONE, TWO))
     if in_blocks(one, archives[TWO][name]).data() != two:
@@ -543,7 +557,7 @@ def honest_in_both(program, archives, name, algorithm, r, query):
     return one, two
 
 
-def in_blocks(data, archive):
+def in_blocks(data: bytes, archive: Archive) -> Proof:
     """The honest proof of the same texts for this archive, whose lists are in blocks."""
     proof = Reader(data).proof()
     proof.version, proof.header = TWO, archive.header
@@ -579,7 +593,7 @@ WORDS = [
 ]
 
 
-def terms_of(program, text):
+def terms_of(program: Program, text: str) -> list[list[Any]]:
     """The terms of a text with their counts, read from the index of this one text."""
     archive = Archive(*program.build([text]))
     impacts = {1 + 22000 * count // (10 * count + 12): count for count in range(1, 50)}
@@ -599,7 +613,7 @@ NUMBERS = [
 ]
 
 
-def told_numbers(program, documents, having, count, others):
+def told_numbers(program: Program, documents: int, having: int, count: int, others: int) -> Entry:
     """The score and the impact of a term: the program prints the score, and the impact is in its index."""
     with_term = ' '.join(['x'] * count + ['y'] * others)
     archive = Archive(*program.build([with_term] * having + ['y'] * (documents - having)))
@@ -624,7 +638,7 @@ INPUTS = [
 ]
 
 
-def told_input(program, r, text, times, zeros):
+def told_input(program: Program, r: int, text: str, times: int, zeros: int) -> Entry:
     answer = program.verify(NOTHING.hex(), r, text * times, bytes(zeros))
     return {'r': r, 'text': text, 'times': times, 'zeros': zeros, **answer}
 
@@ -652,7 +666,7 @@ COMMON = {
 RISING = ['dictionary leaf: position', 'slot: index', 'met document', 'terms leaf: position', 'terms slot: index']
 
 
-def cuts(data, places):
+def cuts(data: bytes, places: dict[str, Pair]) -> Named:
     """The bytes cut in the first field of each name, before its last byte; fields that both algorithms have, once."""
     for name, (_, end) in places.items():
         if data[5] == 1 and name in COMMON:
@@ -663,10 +677,10 @@ def cuts(data, places):
     yield 'without the last byte', data[:-1]
 
 
-def cuts_in_second_digests(data):
+def cuts_in_second_digests(data: bytes) -> Named:
     """The bytes cut in the second digest of each run of digests, before its last byte."""
     fields = list(with_places(Reader(data).proof()))
-    ends = {}
+    ends: dict[str, int] = {}
     for (before, _, _), (name, _, end) in zip(fields, fields[1:]):
         if name == before and name.endswith(': digest'):
             ends.setdefault(name, end)
@@ -674,7 +688,7 @@ def cuts_in_second_digests(data):
         yield f'cut in: the second {name}', data[:end - 1]
 
 
-def out_of_range(data, places):
+def out_of_range(data: bytes, places: dict[str, Pair]) -> Named:
     """The first field of each name just below its range and just above it."""
     for name, (least, greatest) in RANGES.items():
         if name in places:
@@ -684,7 +698,7 @@ def out_of_range(data, places):
                     yield f'{name}: {value}', data[:start] + number(value, end - start) + data[end:]
 
 
-def not_rising(proof, data):
+def not_rising(proof: Proof, data: bytes) -> Named:
     """The second field of each name equal to the first and, if possible, below it; ids and positions must rise."""
     for name in RISING:
         places = [(start, end) for each, start, end in with_places(proof) if each == name]
@@ -697,16 +711,16 @@ def not_rising(proof, data):
                 yield f'{name}: {value} after {first}', data[:other] + number(value, last - other) + data[last:]
 
 
-def kind_before_index(proof, data):
+def kind_before_index(proof: Proof, data: bytes) -> Named:
     """The second slot has a kind out of range and an index below the one before it: the kind comes first."""
     first, second = [start for name, start, _ in with_places(proof) if name == 'slot: kind']
     new = data[:first + 1] + number(1, 2) + data[first + 3:second] + number(2, 1) + number(0, 2) + data[second + 3:]
     yield 'a slot has a bad kind, and an index below the one before it', new
 
 
-def shape_changes(data):
+def shape_changes(data: bytes) -> Named:
     proof = Reader(data).proof()
-    places = {}
+    places: dict[str, Pair] = {}
     for name, start, end in with_places(proof):
         if end > start:
             places.setdefault(name, (start, end))
@@ -722,11 +736,11 @@ def shape_changes(data):
     yield 'a field that is cut is not tried for its range', data[:111] + b'\0'
 
 
-def other_version(data):
+def other_version(data: bytes) -> bytes:
     return data[:4] + number(3 - data[4], 1) + data[5:]
 
 
-def version_changes(data):
+def version_changes(data: bytes) -> Named:
     """The versions of a proof with lists in blocks."""
     yield 'version: 3', data[:4] + number(3, 1) + data[5:]
     yield 'version of the header: 2', data[:6] + number(2, 1) + data[7:]
@@ -735,21 +749,21 @@ def version_changes(data):
 
 # Changes of parts: refusals by the check, and changes that are accepted
 
-def entry(at, place, impact=None):
+def entry(at: int, place: int, impact: Optional[int] = None) -> Callable[[Proof, int], None]:
     """Lets an entry of a list name this place among the met documents, or have this impact too."""
-    def change(proof, which):
+    def change(proof: Proof, which: int) -> None:
         entries = proof.prefixes[which].entries
         entries[at] = (place, entries[at][1] if impact is None else impact)
     return change
 
 
-def with_entry(which, at, place, impact=None):
+def with_entry(which: int, at: int, place: int, impact: Optional[int] = None) -> Change:
     return lambda proof, archive: entry(at, place, impact)(proof, which)
 
 
-def shown_leaves(positions):
+def shown_leaves(positions: list[int]) -> Change:
     """Shows these leaves of the dictionary, with the digests that they need. Present slots stay with their terms."""
-    def change(proof, archive):
+    def change(proof: Proof, archive: Archive) -> None:
         of_slots = [(kind, proof.leaves[index][0]) for kind, index in proof.slots]
         proof.leaves = [(at, *archive.dictionary[at]) for at in positions]
         proof.digests = elided([dictionary_leaf(*leaf) for leaf in archive.dictionary], positions)
@@ -757,18 +771,18 @@ def shown_leaves(positions):
     return change
 
 
-def without_leaf(which):
+def without_leaf(which: int) -> Change:
     """Shows one leaf fewer of the dictionary, with the digests that the others need."""
-    def change(proof, archive):
+    def change(proof: Proof, archive: Archive) -> None:
         del proof.leaves[which]
         leaves = [dictionary_leaf(*leaf) for leaf in archive.dictionary]
         proof.digests = elided(leaves, [leaf[0] for leaf in proof.leaves])
     return change
 
 
-def longer_lists(counts):
+def longer_lists(counts: list[int]) -> Change:
     """Shows these numbers of entries of the lists, the documents that they name, and rows for the same documents."""
-    def change(proof, archive):
+    def change(proof: Proof, archive: Archive) -> None:
         terms = [leaf[1] for leaf in (proof.leaves[index] for kind, index in proof.slots if kind)]
         documents = [proof.met[row] for row in proof.rows]
         entries = [archive.lists[term][:count] for term, count in zip(terms, counts)]
@@ -784,7 +798,7 @@ def longer_lists(counts):
     return change
 
 
-def show_documents(proof, archive, terms):
+def show_documents(proof: Proof, archive: Archive, terms: list[bytes]) -> None:
     """The leaves, digests and slots that a proof with random access shows of its met documents."""
     leaves = archive.document_leaves
     proof.documents = [(int.from_bytes(leaves[at][:4], 'big'), leaves[at][4:]) for at in proof.met]
@@ -795,16 +809,16 @@ def show_documents(proof, archive, terms):
         proof.sections.append(Section(*archive.terms_section(document, positions), slots))
 
 
-def shown_terms(own, terms):
+def shown_terms(own: list[bytes], terms: list[bytes]) -> tuple[list[int], list[Pair]]:
     """The positions of the leaves that show which of the terms are there, and the slots."""
     spots = [own.index(term) if term in own else max(at for at, each in enumerate(own) if each < term) for term in terms]
     positions = sorted({at for term, spot in zip(terms, spots) for at in ([spot] if term in own else [spot, spot + 1])})
     return positions, [(int(term in own), positions.index(spot)) for term, spot in zip(terms, spots)]
 
 
-def more_terms(which):
+def more_terms(which: int) -> Change:
     """Shows all leaves of a met document's terms."""
-    def change(proof, archive):
+    def change(proof: Proof, archive: Archive) -> None:
         section, document = proof.sections[which], proof.met[which]
         spots = [section.leaves[index][0] for _, index in section.slots]
         section.leaves, section.digests = archive.terms_section(document, range(len(archive.documents[document])))
@@ -812,16 +826,16 @@ def more_terms(which):
     return change
 
 
-def these_terms(which, positions, slots):
+def these_terms(which: int, positions: Collection[int], slots: list[Pair]) -> Change:
     """Shows these leaves of a met document's terms, and says these slots of them."""
-    def change(proof, archive):
+    def change(proof: Proof, archive: Archive) -> None:
         proof.sections[which] = Section(*archive.terms_section(proof.met[which], positions), slots)
     return change
 
 
-def more_met(documents):
+def more_met(documents: list[int]) -> Change:
     """Says that further documents are met, which no entry names."""
-    def change(proof, archive):
+    def change(proof: Proof, archive: Archive) -> None:
         proof.met += documents
         for _ in documents if proof.algorithm == 1 else []:
             proof.documents.append((2, NOTHING))
@@ -829,29 +843,29 @@ def more_met(documents):
     return change
 
 
-def rows(*places):
-    def change(proof, archive):
+def rows(*places: int) -> Change:
+    def change(proof: Proof, archive: Archive) -> None:
         proof.rows = list(places)
     return change
 
 
-def assigned(part, at, value):
+def assigned(part: str, at: int, value: object) -> Callable[[Any, Archive], None]:
     """Puts a value at a place of a list of the proof."""
     return lambda proof, archive: getattr(proof, part).__setitem__(at, value)
 
 
-def leaf_with(part, at, which, value):
+def leaf_with(part: str, at: int, which: int, value: object) -> Change:
     """Puts a value into a shown leaf, a slot or a documents leaf."""
-    def change(proof, archive):
+    def change(proof: Proof, archive: Archive) -> None:
         leaf = list(getattr(proof, part)[at])
         leaf[which] = value
         getattr(proof, part)[at] = tuple(leaf)
     return change
 
 
-def section_with(which, at, field_at, value, part='leaves'):
+def section_with(which: int, at: int, field_at: int, value: object, part: str = 'leaves') -> Change:
     """The same in a met document's terms."""
-    def change(proof, archive):
+    def change(proof: Proof, archive: Archive) -> None:
         items = getattr(proof.sections[which], part)
         item = list(items[at])
         item[field_at] = value
@@ -859,9 +873,9 @@ def section_with(which, at, field_at, value, part='leaves'):
     return change
 
 
-def absent(at):
+def absent(at: int) -> Change:
     """Calls a present term absent, and leaves its list out."""
-    def change(proof, archive):
+    def change(proof: Proof, archive: Archive) -> None:
         which = sum(kind for kind, _ in proof.slots[:at])
         proof.slots[at] = (0, proof.slots[at][1])
         del proof.prefixes[which]
@@ -870,28 +884,28 @@ def absent(at):
     return change
 
 
-def nothing_met(proof, archive):
+def nothing_met(proof: Proof, archive: Archive) -> None:
     """Says that no document is met, and has no row."""
     proof.met, proof.documents, proof.sections, proof.rows = [], [], [], []
     if proof.algorithm == 1:
         proof.document_digests = [tree_root(archive.document_leaves)]
 
 
-def all_of(*changes):
-    def change(proof, archive):
+def all_of(*changes: Change) -> Change:
+    def change(proof: Proof, archive: Archive) -> None:
         for each in changes:
             each(proof, archive)
     return change
 
 
-def header_with(**parts):
-    def change(proof, archive):
+def header_with(**parts: object) -> Change:
+    def change(proof: Proof, archive: Archive) -> None:
         for name, value in parts.items():
             setattr(proof.header, name, value)
     return change
 
 
-def digests_of(where, change):
+def digests_of(where: Callable[[Proof], list[bytes]], change: Callable[[list[bytes]], object]) -> Change:
     """Changes the digests of the dictionary, or of a part of the proof."""
     return lambda proof, archive: change(where(proof))
 
@@ -914,7 +928,7 @@ COPIES = 'one of many copies'
 
 ALL_FOXES = shown_leaves(list(range(6)))
 
-BOTH = [
+BOTH: list[tuple[Any, ...]] = [
     # the header and the number of terms
     (FOXES, 'the header has another number of documents', header_with(documents=4)),
     (FOXES, 'another root of the texts', lambda proof, archive: assigned('roots', 2, OTHER)(proof.header, archive)),
@@ -1019,7 +1033,7 @@ BOTH = [
     (FOXES, 'two: met documents and row', all_of(more_met([9]), rows(4))),
 ]
 
-TRA_ALONE = [
+TRA_ALONE: list[tuple[Any, ...]] = [
     (ONE_FOX, 'documents: a digest too few', digests_of(DOCUMENTS, DROP)),
     (ONE_FOX, 'documents: another digest', digests_of(DOCUMENTS, BEND)),
     (FOXES, 'documents: a digest too many', digests_of(DOCUMENTS, ADD)),
@@ -1067,7 +1081,7 @@ TRA_ALONE = [
 ]
 
 
-def bare_next(proof, archive):
+def bare_next(proof: Proof, archive: Archive) -> None:
     """Gives the root of the next block's tree in place of the digest of its string."""
     proof.prefixes[0].digests[-1] = tree_root(archive.list_leaves(b'a')[BLOCK:2 * BLOCK])
 
@@ -1090,7 +1104,7 @@ LISTS_IN_BLOCKS = [
 ]
 
 # The same bytes for another question, or under another root.
-ASKED = [
+ASKED: list[tuple[str, str, dict[str, Any]]] = [
     (FOXES, 'under another root', {'root': NOTHING.hex()}),
     (FOXES, 'for another number of terms', {'query': 'hen'}),
     (FOXES, 'for another number of terms, under another root', {'query': 'hen', 'root': NOTHING.hex()}),
@@ -1104,24 +1118,24 @@ ASKED = [
 ]
 
 
-def changed(program, archives, proofs):
+def changed(program: Program, archives: Archives, proofs: dict[str, Entry]) -> list[Entry]:
     """Changes of honest proofs, each with what the program prints for it."""
     told = []
 
-    def tell(of, about, changes, **asked):
+    def tell(of: str, about: str, changes: list[list[Any]], **asked: Any) -> None:
         honest_one = proofs[of]
         question = {name: asked.get(name, honest_one[name]) for name in ('root', 'r', 'query')}
         data = patched(bytes.fromhex(honest_one['proof']), changes)
         answer = program.verify(question['root'], question['r'], question['query'], data)
         told.append({'of': of, 'about': about, **asked, 'changes': changes, **answer})
 
-    def tell_change(of, about, change, **asked):
+    def tell_change(of: str, about: str, change: Change, **asked: Any) -> None:
         data = bytes.fromhex(proofs[of]['proof'])
         proof = copy.deepcopy(Reader(data).proof())
         change(proof, archives[proof.version][proofs[of]['archive']])
         tell(of, about, difference(data, proof.data()), **asked)
 
-    def tell_in_blocks():
+    def tell_in_blocks() -> None:
         one, two = f'{FOXES} by tnra', f'{FOXES}, in blocks, by tnra'
         tell(one, 'under the root of these texts with lists in blocks', [], root=proofs[two]['root'])
         tell(two, 'under the root of these texts with lists of one tree', [], root=proofs[one]['root'])
@@ -1154,12 +1168,12 @@ def changed(program, archives, proofs):
 class Made:
     """Any dictionary, documents and lists, and a proof that shows chosen parts of them."""
 
-    def __init__(self, documents, **parts):
+    def __init__(self, documents: int, **parts: object) -> None:
         self.proof = Proof(2, Header(1, documents, 0, [NOTHING, NOTHING, NOTHING]), 1, [], [], [], [], [], rows=[0])
         for name, value in parts.items():
             setattr(self.proof, name, value)
 
-    def list_root(self, count, entries, digests=()):
+    def list_root(self, count: int, entries: list[Pair], digests: Iterable[bytes] = ()) -> bytes:
         """Shows the first entries of a list, pairs of a document and an impact, and returns its root."""
         proof = self.proof
         places = {document: at for at, document in enumerate(proof.met)}
@@ -1167,14 +1181,14 @@ class Made:
         shown = [list_leaf(*each) for each in entries]
         return rebuilt_list(proof.version, count, shown, list(digests)) if len(shown) <= count else NOTHING
 
-    def dictionary(self, count, leaves, digests=()):
+    def dictionary(self, count: int, leaves: list[tuple[int, bytes, int, bytes]], digests: Iterable[bytes] = ()) -> None:
         """Shows leaves of a dictionary of `count`: position, term, number of documents, root of the list."""
         proof = self.proof
         proof.leaves, proof.digests, proof.header.leaves = leaves, list(digests), count
         shown = [(leaf[0], dictionary_leaf(*leaf[1:])) for leaf in leaves]
         proof.header.roots[0] = rebuilt(count, shown, list(digests))
 
-    def documents(self, leaves, digests, sections):
+    def documents(self, leaves: list[tuple[int, bytes]], digests: Iterable[bytes], sections: list[Section]) -> None:
         """Shows the leaves of the met documents, and a section for each."""
         proof = self.proof
         proof.algorithm, proof.documents, proof.document_digests, proof.sections = 1, leaves, list(digests), sections
@@ -1182,7 +1196,7 @@ class Made:
         proof.header.roots[1] = rebuilt(proof.header.documents, shown, list(digests))
 
 
-def one_list(documents, count, entries, digests=(), rows=(0,), term=b'x', version=ONE):
+def one_list(documents: int, count: int, entries: list[Pair], digests: Iterable[bytes] = (), rows: Iterable[int] = (0,), term: bytes = b'x', version: int = ONE) -> Made:
     """A dictionary of one term between sentinels, with this list."""
     met = sorted({each for each, _ in entries})
     made = Made(documents, version=version, met=met, slots=[(1, 0)], rows=list(rows))
@@ -1191,7 +1205,7 @@ def one_list(documents, count, entries, digests=(), rows=(0,), term=b'x', versio
     return made
 
 
-def two_lists(fronts, rows):
+def two_lists(fronts: tuple[list[Pair], list[Pair]], rows: Iterable[int]) -> Made:
     """Four entries of hen and three of red, of which these prefixes are shown; the coefficients are 2 and 5."""
     made = Made(4, terms=2, met=sorted({each for front in fronts for each, _ in front}), slots=[(1, 0), (1, 1)],
                 rows=list(rows))
@@ -1203,12 +1217,12 @@ def two_lists(fronts, rows):
     return made
 
 
-def random_access(documents, entries, counts, sections, digests, rows=(0,), term=b'x'):
+def random_access(documents: int, entries: list[Pair], counts: list[int], sections: list[Section], digests: Iterable[bytes], rows: Iterable[int] = (0,), term: bytes = b'x') -> Made:
     """The same by random access: each met document has this number of leaves of terms, and this section."""
     return looked_up(one_list(documents, len(entries), entries, rows=rows, term=term), counts, sections, digests)
 
 
-def looked_up(made, counts, sections, digests):
+def looked_up(made: Made, counts: list[int], sections: list[Section], digests: Iterable[bytes]) -> Made:
     leaves = []
     for count, section in zip(counts, sections):
         shown = [(leaf[0], terms_leaf(*leaf[1:])) for leaf in section.leaves]
@@ -1217,7 +1231,7 @@ def looked_up(made, counts, sections, digests):
     return made
 
 
-def whole_dictionary(leaves, places):
+def whole_dictionary(leaves: list[bytes], places: list[int]) -> Made:
     """A dictionary of these terms, all shown, of which two are present, each with a list of one entry of document 0."""
     made = Made(5, terms=2, met=[0], slots=[(1, at) for at in places])
     roots = {at: made.list_root(1, [(0, 100 + which)]) for which, at in enumerate(places)}
@@ -1229,7 +1243,7 @@ CUT = [(0, 900), (1, 800), (2, 10)], [(2, 300)]
 WHOLE = [(0, 900), (1, 800), (2, 10), (3, 5)], [(2, 300), (1, 200), (0, 50)]
 
 
-def bounds_apart():
+def bounds_apart() -> Iterator[Shown]:
     """Answers on which a client decides wrongly if it uses only the lower bounds, or only the upper ones."""
     yield 'bounds: a document with no row has its upper bound above the last row, and not its lower bound', two_lists(
         CUT, [0]), 1, 'hen red'
@@ -1241,12 +1255,12 @@ def bounds_apart():
         ([(0, 900), (1, 100)], [(0, 300), (1, 20)]), [0, 1]), 2, 'hen red'
 
 
-def made_digests(count):
+def made_digests(count: int) -> list[bytes]:
     """So many digests of nothing that is known."""
     return [digest(number(at, 1)) for at in range(count)]
 
 
-def made_in_blocks():
+def made_in_blocks() -> Iterator[Shown]:
     """Proofs with lists in blocks."""
     yield 'in blocks: the largest number of entries', one_list(
         2, 2**32 - 1, [(0, 7)], made_digests(7), version=TWO), 1, 'x'
@@ -1257,16 +1271,16 @@ def made_in_blocks():
     yield 'lists of one tree: the root of a list is that of a list in blocks', of_other_version(TWO), 1, 'x'
 
 
-def of_other_version(version):
+def of_other_version(version: int) -> Made:
     """The root of the list is by this version; the proof has the other one, and the root of the header is by that."""
     made = one_list(5, 2, [(0, 5), (1, 5)], version=version)
     made.proof.version = ONE + TWO - version
     return made
 
 
-def made_proofs():
+def made_proofs() -> Iterator[Shown]:
     """Each with what it shows, and its question."""
-    def has(impact):
+    def has(impact: int) -> Section:
         return Section([(1, b'x', impact)], [OTHER, OTHER], [(1, 0)])
     yield 'a met document at the number of documents', one_list(1, 1, [(1, 5)]), 1, 'x'
     yield 'a met document far above the number of documents', one_list(1, 1, [(2**32 - 1, 5)]), 1, 'x'
@@ -1324,7 +1338,7 @@ def made_proofs():
     yield from made_in_blocks()
 
 
-def made_answers(program):
+def made_answers(program: Program) -> list[Entry]:
     told = []
     for about, made, r, query in made_proofs():
         data, root = made.proof.data(), made.proof.root()
@@ -1343,9 +1357,10 @@ GOING_ON = {
 LEAST = 63  # pieces that come fewer times over are kept as they are
 
 
-def pieces(proof):
+def pieces(proof: Proof) -> list[Piece]:
     """The bytes of a proof in pieces that may repeat, each with the name of its first field."""
-    whole, has_many = [], len(proof.sections) >= LEAST
+    whole: list[Piece] = []
+    has_many = len(proof.sections) >= LEAST
     for name, data in proof.fields():
         if name in GOING_ON or has_many and name == 'terms: digest':
             whole[-1] = (whole[-1][0], whole[-1][1] + data)
@@ -1354,14 +1369,14 @@ def pieces(proof):
     return whole
 
 
-def is_next(before, piece):
+def is_next(before: Piece, piece: Piece) -> bool:
     """Whether the first 4 bytes are a number that is larger by 1, and the others are equal."""
     (name, old), (other, new) = before, piece
     is_greater = len(new) >= 4 and int.from_bytes(new[:4], 'big') == int.from_bytes(old[:4], 'big') + 1
     return name == other and is_greater and old[4:] == new[4:]
 
 
-def run_length(whole, at, goes_on):
+def run_length(whole: list[Piece], at: int, goes_on: Callable[[Piece, Piece], bool]) -> int:
     """How many pieces from this one on continue the piece before them."""
     end = at + 1
     while end < len(whole) and goes_on(whole[end - 1], whole[end]):
@@ -1369,7 +1384,7 @@ def run_length(whole, at, goes_on):
     return end - at
 
 
-def in_parts(whole):
+def in_parts(whole: list[Piece]) -> Parts:
     """These pieces in parts. A piece that comes only once is in one part with its neighbours."""
     parts, at, once = [], 0, b''
     while at < len(whole):
@@ -1385,12 +1400,12 @@ def in_parts(whole):
     return parts + ([[once.hex(), 1]] if once else [])
 
 
-def bytes_in_parts(data):
+def bytes_in_parts(data: bytes) -> Parts:
     """Bytes in parts: a byte that comes many times over is one part."""
     return in_parts([('byte', data[at:at + 1]) for at in range(len(data))])
 
 
-def expanded(parts):
+def expanded(parts: Parts) -> bytes:
     whole = []
     for data, times, *start in parts:
         data = bytes.fromhex(data)
@@ -1403,24 +1418,24 @@ def expanded(parts):
 ALL = 65536
 
 
-def everything_met(rows):
+def everything_met(rows: Iterable[int]) -> Made:
     """A list of all entries that a proof may show, whose documents tie."""
     return one_list(ALL, ALL, [(document, 5) for document in range(ALL)], rows=rows)
 
 
-def everything_looked_up(rows):
+def everything_looked_up(rows: Iterable[int]) -> Made:
     """The same by random access: each document has this one term and no sentinels."""
     one = Section([(0, b'x', 5)], [], [(1, 0)])
     return random_access(ALL, [(document, 5) for document in range(ALL)], [1] * ALL, [one] * ALL, [], rows)
 
 
-def too_many_documents_digests():
+def too_many_documents_digests() -> Made:
     made = random_access(5, [(1, 5)], [1], [Section([(0, b'x', 5)], [], [(1, 0)])], [OTHER] * 3)
     made.proof.document_digests = [OTHER] * ALL
     return made
 
 
-def absent_terms(count):
+def absent_terms(count: int) -> Made:
     """`count` absent terms, each between two leaves of its own, far from one another in the largest dictionary."""
     made, size = Made(5, terms=count, slots=[(0, 2 * at) for at in range(count)], rows=[]), 16777218
     leaves = [(size // count * at + side, f'a{at:02}{end}'.encode(), 1, OTHER)
@@ -1429,7 +1444,7 @@ def absent_terms(count):
     return made
 
 
-def elided_places(count, shown, start=0):
+def elided_places(count: int, shown: list[int], start: int = 0) -> list[Pair]:
     """The maximal subtrees without a shown position, each as its first position and its size."""
     if not any(start <= at < start + count for at in shown):
         return [(start, count)]
@@ -1439,7 +1454,7 @@ def elided_places(count, shown, start=0):
     return elided_places(middle, shown, start) + elided_places(count - middle, shown, start + middle)
 
 
-def many_terms():
+def many_terms() -> Made:
     """A document of the largest number of leaves. As many are shown as a proof may show, far from one another."""
     size = 2**32 - 1
     leaves = [(size // 64 * at + 1, f'x{at:02}'.encode(), at) for at in range(64)]
@@ -1447,7 +1462,7 @@ def many_terms():
     return random_access(5, [(1, 5)], [size], [section], [OTHER] * 3, term=b'x63')
 
 
-def many_documents():
+def many_documents() -> Made:
     """Documents far from one another, by random access."""
     met = list(range(3, ALL, ALL // 64))
     one = Section([(0, b'x', 5)], [], [(1, 0)])
@@ -1455,7 +1470,7 @@ def many_documents():
     return random_access(ALL, [(document, 5) for document in met], [1] * 64, [one] * 64, digests, range(64))
 
 
-def large_proofs():
+def large_proofs() -> Iterator[Shown]:
     absent = ' '.join(f'a{at:02}b' for at in range(32))
     yield 'the largest numbers of entries, of met documents, and of rows', everything_met(range(1000)), 1000, 'x'
     yield 'the same, and one row too few', everything_met(range(999)), 1000, 'x'
@@ -1470,9 +1485,9 @@ def large_proofs():
     yield 'in blocks: 65 entries in a list of 66', one_list(100, BLOCK + 2, shown, made_digests(1), version=TWO), 1, 'x'
 
 
-def fronts(program, archives):
+def fronts(program: Program, archives: Archives) -> Iterator[tuple[str, Proof, int]]:
     """Proofs that show the first entries of a list of equal texts, in blocks. The best r texts need r entries."""
-    def front(name, algorithm, r):
+    def front(name: str, algorithm: str, r: int) -> Proof:
         return Reader(honest_in_both(program, archives, name, algorithm, r, 'a')[1]).proof()
 
     for algorithm in ('tnra', 'tra'):
@@ -1489,10 +1504,10 @@ def fronts(program, archives):
     yield 'in blocks: two blocks exchanged', proof, 128
 
 
-def large(program, archives):
+def large(program: Program, archives: Archives) -> list[Entry]:
     told = []
 
-    def tell(about, proof, r, query):
+    def tell(about: str, proof: Proof, r: int, query: str) -> None:
         data, parts, root = proof.data(), in_parts(pieces(proof)), proof.root()
         agreed(about, expanded(parts), data)
         answer = program.verify(root, r, query, data)
@@ -1507,12 +1522,12 @@ def large(program, archives):
 
 # Frames: requests to a server, and its replies. All come from the second client; the gate compares the program
 
-def reply(data):
+def reply(data: bytes) -> bytes:
     """The reply that has this proof."""
     return client.framed(b'\0' + data)
 
 
-def replies(honest):
+def replies(honest: bytes) -> Named:
     """Replies to the question for one row, by what they are."""
     yield 'the proof, and a byte after the reply', honest + b'\0'
     for size in (0, 1, 3):
@@ -1543,11 +1558,11 @@ def replies(honest):
     yield 'a proof with another front, and cut', reply(b'B' + honest[6:])[:-1]
 
 
-def asked(proofs):
+def asked(proofs: dict[str, Entry]) -> list[Entry]:
     """What `ask` writes, what it reads, and what it then prints."""
     told = []
 
-    def tell(about, of, parts, **other):
+    def tell(about: str, of: str, parts: Parts, **other: Any) -> None:
         asks = {name: other.get(name, proofs[of][name]) for name in ('root', 'algorithm', 'r', 'query')}
         answer = client.ask(asks['root'], asks['r'], asks['query'], expanded(parts))
         request = bytes_in_parts(client.request(asks['algorithm'], asks['r'], asks['query']))
@@ -1572,13 +1587,13 @@ def asked(proofs):
     return told
 
 
-def asking(algorithm, r, query, version=1, size=None):
+def asking(algorithm: int, r: int, query: bytes, version: int = 1, size: Optional[int] = None) -> bytes:
     """A request with any fields."""
     size = len(query) if size is None else size
     return client.framed(bytes([version, algorithm]) + number(r, 2) + number(size, 2) + query)
 
 
-def codes():
+def codes() -> Named:
     """Requests that get a code, by what is wrong with them."""
     many, distinct = b'red ' * 256, b' '.join(b'a%d' % at for at in range(33))
     for version in (0, 2):
@@ -1605,7 +1620,7 @@ def codes():
     yield 'two: a query of 4,001 bytes, and of 33 terms', asking(2, 1, distinct.ljust(4001))
 
 
-def links(first):
+def links(first: bytes) -> Iterator[tuple[str, Parts]]:
     """What arrives over a link, by how it ends; the first request is honest."""
     code = asking(2, 1, b'...')
     yield 'nothing', []
@@ -1621,20 +1636,20 @@ def links(first):
     yield '65,537 requests', [[code.hex(), 65537]]
 
 
-def served(proofs):
+def served(proofs: dict[str, Entry]) -> list[Entry]:
     """What arrives at `serve`, what it replies, and what it then prints."""
     known = {(each['archive'], each['algorithm'], each['r'], each['query']): bytes.fromhex(each['proof'])
              for name, each in proofs.items() if 'in blocks' not in name}
     told = []
 
-    def reply_to(archive, body):
+    def reply_to(archive: str, body: bytes) -> bytes:
         asks = client.question(body)
         if isinstance(asks, int):
             return client.framed(bytes([1, asks]))
         algorithm, r, query = asks
         return reply(known[archive, algorithm, r, query.strip()])
 
-    def tell(about, parts, archive='foxes'):
+    def tell(about: str, parts: Parts, archive: str = 'foxes') -> None:
         bodies, end = client.requests(expanded(parts))
         ends = [f'connection 1 requests {len(bodies)} {end}']
         sent = in_parts([('reply', reply_to(archive, body)) for body in bodies])
@@ -1672,13 +1687,13 @@ class Given:
     text: bytes
     digests: list
 
-    def root(self):
+    def root(self) -> str:
         return root_of_header(self.version, self.header)
 
-    def data(self):
+    def data(self) -> bytes:
         return b''.join(data for _, data in self.fields())
 
-    def fields(self):
+    def fields(self) -> Named:
         yield 'magic', b'ATSF'
         yield 'format', number(self.version, 1)
         yield from self.header.fields()
@@ -1694,18 +1709,18 @@ TEXT_RANGES = {
 }
 
 
-def given(archive, document):
+def given(archive: Archive, document: int) -> Given:
     """The honest file."""
     return Given(archive.version, archive.header, archive.texts[document], elided(archive.texts, [document]))
 
 
-def made_text(documents, document, text, digests, version=ONE):
+def made_text(documents: int, document: int, text: bytes, digests: list[bytes], version: int = ONE) -> Given:
     """A file under a root that no archive has: all that the check does not ask of the header is 0 or least."""
     root = rebuilt(documents, [(document, text)], list(digests))
     return Given(version, Header(1, documents, 2, [NOTHING, NOTHING, root]), text, list(digests))
 
 
-def field_changes(whole, ranges):
+def field_changes(whole: Whole, ranges: dict[str, Pair]) -> Named:
     """The bytes cut in each field, and the first number of each name just out of its range."""
     data, seen = whole.data(), set()
     for name, start, end in with_places(whole):
@@ -1718,7 +1733,7 @@ def field_changes(whole, ranges):
         seen.add(name)
 
 
-def text_shapes(honest):
+def text_shapes(honest: Given) -> Named:
     """Faults of shape, by what they are."""
     data = honest.data()
     yield from field_changes(honest, TEXT_RANGES)
@@ -1735,7 +1750,7 @@ def text_shapes(honest):
     yield 'one byte more than the largest number', bytes(LONGEST_TEXT_FILE + 1)
 
 
-def changed_copy(honest, **parts):
+def changed_copy(honest: T, **parts: object) -> T:
     """The same with other parts."""
     changed = copy.deepcopy(honest)
     for name, value in parts.items():
@@ -1743,7 +1758,7 @@ def changed_copy(honest, **parts):
     return changed
 
 
-def text_changes(honest):
+def text_changes(honest: Given) -> Iterator[tuple[str, Given]]:
     """Changes of what the file says, by what they are."""
     text, digests = honest.text, honest.digests
     yield 'another first byte of the text', changed_copy(honest, text=b'X' + text[1:])
@@ -1768,7 +1783,7 @@ def text_changes(honest):
     yield 'the other format', changed_copy(honest, version=ONE + TWO - honest.version)
 
 
-def leaf_up(count, position, digests):
+def leaf_up(count: int, position: int, digests: list[bytes]) -> list[bytes]:
     """The same digests in the order of an audit path (RFC 6962 2.1.1): from the leaf up."""
     if count == 1:
         return []
@@ -1778,7 +1793,7 @@ def leaf_up(count, position, digests):
     return leaf_up(count - middle, position - middle, digests[1:]) + digests[:1]
 
 
-def made_texts():
+def made_texts() -> Iterator[tuple[str, Given, int]]:
     """Files that are accepted under roots which no archive has, with what each shows, and its document."""
     for version, blocks in ((ONE, ''), (TWO, 'in blocks: ')):
         yield blocks + 'bytes that are no UTF-8', made_text(1, 0, b'\xff\x00red', [], version), 0
@@ -1790,11 +1805,11 @@ def made_texts():
     yield 'digests of bytes 00', made_text(3, 1, b'red', [NOTHING, NOTHING]), 1
 
 
-def texts(archives):
+def texts(archives: Archives) -> list[Entry]:
     """Honest files, changed ones and made ones, each with what `fetch` prints of it."""
     told = []
 
-    def tell(about, root, document, data, **other):
+    def tell(about: str, root: str, document: int, data: bytes, **other: Any) -> None:
         answer = client.fetch(root, document, data)
         if 'text' in answer:
             answer['text'] = bytes_in_parts(answer['text'])
@@ -1832,7 +1847,7 @@ def texts(archives):
     return told
 
 
-def look_over_files(name, told, refusals):
+def look_over_files(name: str, told: list[Entry], refusals: set[str]) -> None:
     """Each refusal and each kind of fault must occur; these files have no algorithm and no order."""
     words = [each['lines'][0].split() for each in told if each['status'] == 1]
     kinds = {'long', 'cut', 'magic', 'version', 'count', 'trailing'}
@@ -1864,13 +1879,13 @@ class Grown:
     new: Header
     digests: list
 
-    def roots(self):
+    def roots(self) -> tuple[str, str]:
         return root_of_header(self.old_version, self.old), root_of_header(self.new_version, self.new)
 
-    def data(self):
+    def data(self) -> bytes:
         return b''.join(data for _, data in self.fields())
 
-    def fields(self):
+    def fields(self) -> Named:
         yield 'magic', b'ATSG'
         for which, version, header in (('old', self.old_version, self.old), ('new', self.new_version, self.new)):
             yield f'{which}: format', number(version, 1)
@@ -1886,7 +1901,7 @@ GROWTH_RANGES = {
 }
 
 
-def subproof(count, leaves, is_known=True):
+def subproof(count: int, leaves: list[bytes], is_known: bool = True) -> list[bytes]:
     """The digests of RFC 6962 2.1.2: the first `count` leaves are the old ones."""
     if count == len(leaves):
         return [] if is_known else [tree_root(leaves)]
@@ -1897,19 +1912,19 @@ def subproof(count, leaves, is_known=True):
     return subproof(count - middle, right, False) + [tree_root(left)]
 
 
-def grown(old, new):
+def grown(old: Archive, new: Archive) -> Grown:
     """The honest file."""
     return Grown(old.version, old.header, new.version, new.header, subproof(len(old.texts), new.texts))
 
 
-def made_growth(old, new, digests, root=NOTHING):
+def made_growth(old: int, new: int, digests: list[bytes], root: bytes = NOTHING) -> Grown:
     """A file under roots that no archive has. `root` is that of the old texts if they are a whole left part."""
     roots = client.pair(root, old, new, list(digests))
     headers = [Header(1, count, 2, [NOTHING, NOTHING, each]) for count, each in zip((old, new), roots)]
     return Grown(ONE, headers[0], TWO, headers[1], list(digests))
 
 
-def growth_shapes(honest):
+def growth_shapes(honest: Grown) -> Named:
     """Faults of shape, by what they are."""
     data = honest.data()
     yield from field_changes(honest, GROWTH_RANGES)
@@ -1922,7 +1937,7 @@ def growth_shapes(honest):
     yield 'one byte more than the largest number', data.ljust(LONGEST_GROWTH + 1, b'\0')
 
 
-def growth_changes(honest):
+def growth_changes(honest: Grown) -> Iterator[tuple[str, Grown]]:
     """Changes of what the file says, by what they are."""
     digests = honest.digests
     for at, name in enumerate(('first', 'second', 'third')):
@@ -1945,7 +1960,7 @@ def growth_changes(honest):
         yield f'the other format of the {which} archive', changed_copy(honest, **{version: ONE + TWO - getattr(honest, version)})
 
 
-def made_growths():
+def made_growths() -> Iterator[tuple[str, Grown]]:
     """Files under roots that no archive has, with what each shows."""
     for old, new in ((1, 2), (1, 65536), (32768, 65536), (32769, 65536), (65535, 65536), (65536, 65536), (5, 8), (7, 8)):
         count = client.needed(old, new)
@@ -1955,11 +1970,11 @@ def made_growths():
     yield 'an old part that is known has no digest: one more for it', changed_copy(whole, digests=[OTHER, *whole.digests])
 
 
-def growths(archives):
+def growths(archives: Archives) -> list[Entry]:
     """Honest files, changed ones and made ones, each with what `growth` prints of it."""
     told = []
 
-    def tell(about, roots, data, **other):
+    def tell(about: str, roots: Sequence[str], data: bytes, **other: Any) -> None:
         old, new = roots
         told.append({'about': about, **other, 'old_root': old, 'new_root': new, **client.growth(old, new, data),
                      'file': bytes_in_parts(data)})
@@ -1996,7 +2011,7 @@ def growths(archives):
     return told
 
 
-def withdrawn(one, two, has_old_digests):
+def withdrawn(one: Archive, two: Archive, has_old_digests: bool) -> tuple[tuple[str, str], bytes]:
     """The roots and the file of a growth in which the first text was changed, with digests of the old or the new texts."""
     texts = [b'red hen', *two.texts[1:]]
     header = copy.deepcopy(two.header)
@@ -2023,14 +2038,14 @@ BOTH_ASKED = {
 BOTH_ASKED_IN_BLOCKS = ['foxes', 'silent', 'copies', 'one more than a block', 'sample']
 
 
-def both_counts(archive, terms):
+def both_counts(archive: Archive, terms: list[bytes]) -> list[int]:
     """How many entries are shown of each list: the first of the shortest is whole if all terms are present."""
     counts = [len(archive.lists[term]) for term in terms if term in archive.lists]
     whole = counts.index(min(counts)) if len(counts) == len(terms) else len(counts)
     return [count if at == whole else 1 for at, count in enumerate(counts)]
 
 
-def shown_for_both(archive, query, counts=None):
+def shown_for_both(archive: Archive, query: str, counts: Optional[list[int]] = None) -> Proof:
     """The honest proof, or one that shows these numbers of entries."""
     terms = [term for term, _ in client.terms(query)]
     positions, slots = shown_terms([leaf[0] for leaf in archive.dictionary], terms)
@@ -2043,11 +2058,11 @@ def shown_for_both(archive, query, counts=None):
 
 
 @functools.lru_cache(maxsize=None)
-def terms_in(text):
+def terms_in(text: bytes) -> set[bytes]:
     return {term for term, _ in client.terms(text.decode())}
 
 
-def having_all(archive, query):
+def having_all(archive: Archive, query: str) -> list[str]:
     """The documents that have every term of the query, by their texts alone."""
     return [str(at) for at, text in enumerate(archive.texts) if terms_in(query.encode()) <= terms_in(text)]
 
@@ -2137,7 +2152,7 @@ BOTH_IN_BLOCKS = [
 ]
 
 
-def both_shapes(data):
+def both_shapes(data: bytes) -> Named:
     """A few faults of shape: the bytes are read as those of a proof."""
     yield 'no bytes', b''
     yield 'without the last byte', data[:-1]
@@ -2151,17 +2166,17 @@ def both_shapes(data):
     yield 'number of rows: 1001', data[:-2] + number(1001, 2)
 
 
-def made_for_both():
+def made_for_both() -> Iterator[tuple[str, Made, str]]:
     """Proofs under roots that no archive has, with what each shows, and its query."""
     lacks = Section([(0, b'', 0), (1, b'\xff', 0)], [], [(0, 0)])
 
-    def has(impact):
+    def has(impact: int) -> Section:
         return Section([(1, b'x', impact)], [OTHER, OTHER], [(1, 0)])
 
-    def one_met(made, count=3, section=None):
+    def one_met(made: Made, count: int = 3, section: Optional[Section] = None) -> Made:
         return looked_up(made, [count], [section or has(5)], made_digests(3))
 
-    def front(count, digests, impact=7, version=ONE):
+    def front(count: int, digests: int, impact: int = 7, version: int = ONE) -> Made:
         return one_met(one_list(5, count, [(1, impact)], made_digests(digests), (), version=version))
 
     yield 'an impact of 0 in the list and in the document', one_met(one_list(5, 1, [(1, 0)], rows=()), 3, has(0)), 'x'
@@ -2196,13 +2211,13 @@ def made_for_both():
         one_list(ALL, ALL, [(at, 5) for at in range(ALL)], rows=()), [2] * ALL, [lacks] * ALL, []), 'x'
 
 
-def changed_rows(made):
+def changed_rows(made: Made) -> Made:
     """The same with no row."""
     made.proof.rows = []
     return made
 
 
-def two_whole(first, second, leaves, slots):
+def two_whole(first: list[int], second: list[int], leaves: list[tuple[bytes, int]], slots: list[Pair]) -> Made:
     """The lists of x and y, with these documents; documents 1 and 2, of 5, have these leaves and slots."""
     made = Made(5, terms=2, met=sorted({*first, *second}), slots=[(1, 0), (1, 1)], rows=[])
     roots = [made.list_root(len(each), [(at, 5) for at in each]) for each in (first, second)]
@@ -2212,23 +2227,23 @@ def two_whole(first, second, leaves, slots):
     return looked_up(made, [3, 3], [section] * 2, made_digests(3))
 
 
-def both(archives, proofs):
+def both(archives: Archives, proofs: dict[str, Entry]) -> list[Entry]:
     """Honest files, changed ones and made ones, each with what `both` prints of it."""
     told = []
 
-    def tell(about, root, query, proof, **other):
+    def tell(about: str, root: str, query: str, proof: Union[bytes, Proof], **other: Any) -> None:
         data = proof if isinstance(proof, bytes) else proof.data()
         parts = bytes_in_parts(data) if isinstance(proof, bytes) else in_parts(pieces(proof))
         agreed(about, expanded(parts), data)
         told.append({'about': about, **other, 'root': root, 'query': query, **client.both(root, query, data), 'proof': parts})
 
-    def tell_honest(name, archive, queries):
+    def tell_honest(name: str, archive: Archive, queries: list[str]) -> None:
         for query in queries:
             about = f'{name}, in blocks' if archive.version == TWO else name
             tell(about, archive.root, query, shown_for_both(archive, query), archive=name)
             agreed((name, query), told[-1]['lines'], having_all(archive, query))
 
-    def tell_change(about, archive, query, change):
+    def tell_change(about: str, archive: Archive, query: str, change: Change) -> None:
         proof = shown_for_both(archive, query)
         change(proof, archive)
         tell(about, archive.root, query, proof)
@@ -2271,7 +2286,7 @@ def both(archives, proofs):
     return told
 
 
-def look_over_both(told):
+def look_over_both(told: list[Entry]) -> None:
     """Each refusal must occur, and a few kinds of fault."""
     words = [each['lines'][0].split() for each in told if each['status'] == 1]
     wanted = REFUSALS - {'answer-out', 'answer-repeated', 'not-settled'} | {'not-tra', 'answer-shown', 'no-whole-list'}
@@ -2310,13 +2325,13 @@ class Catalog:
     roots: list
     proofs: list
 
-    def root(self):
+    def root(self) -> str:
         return digest(HEADER_TAGS[ONE] + b'ATSC' + number(1, 1) + number(len(self.roots), 4) + tree_root(self.roots)).hex()
 
-    def data(self):
+    def data(self) -> bytes:
         return b''.join(data for _, data in self.fields())
 
-    def fields(self):
+    def fields(self) -> Named:
         yield 'magic', b'ATSS'
         yield 'version', number(1, 1)
         yield 'number of shards', number(len(self.roots), 4)
@@ -2327,7 +2342,7 @@ class Catalog:
             yield 'proof of a shard', proof
 
 
-def in_catalog(program, archives, name, algorithm, r, query):
+def in_catalog(program: Program, archives: Archives, name: str, algorithm: str, r: int, query: str) -> Catalog:
     """An answer of all shards: the proof of each for so many rows, of which only those stay that are among the best of all."""
     shards = [archives[version][one] for one, version in CATALOGS[name]]
     proofs = [program.prove(shard.index, algorithm, r, query) for shard in shards]
@@ -2338,19 +2353,19 @@ def in_catalog(program, archives, name, algorithm, r, query):
     return Catalog(roots, [with_rows(data, lambda rows: rows[:count]) for data, count in zip(proofs, counts)])
 
 
-def with_rows(data, change):
+def with_rows(data: bytes, change: Callable[[list[int]], list[int]]) -> bytes:
     """A proof with other rows."""
     proof = Reader(data).proof()
     proof.rows = change(proof.rows)
     return proof.data()
 
 
-def changed_shard(honest, at, change):
+def changed_shard(honest: Catalog, at: int, change: Callable[[bytes], bytes]) -> Catalog:
     """A catalog's proof with another proof of one shard."""
     return changed_copy(honest, proofs=[*honest.proofs[:at], change(honest.proofs[at]), *honest.proofs[at + 1:]])
 
 
-def catalog_shapes(honest):
+def catalog_shapes(honest: Catalog) -> Named:
     """Faults of shape, by what they are."""
     data = honest.data()
     yield from field_changes(honest, CATALOG_RANGES)
@@ -2360,7 +2375,7 @@ def catalog_shapes(honest):
     yield 'the proof of one shard alone', honest.proofs[0]
 
 
-def catalog_changes(honest):
+def catalog_changes(honest: Catalog) -> Iterator[tuple[str, Catalog]]:
     """Changes of what a proof shows of two shards, the first one with one row and the second with two, by what they are."""
     one, two = honest.proofs
     yield 'another first root', changed_copy(honest, roots=[NOTHING, honest.roots[1]])
@@ -2389,7 +2404,7 @@ CHANGED_ROWS = [
 ]
 
 
-def catalogs_asked(honest):
+def catalogs_asked(honest: Catalog) -> Iterator[tuple[str, str, int, str]]:
     """Roots and questions other than those that the proof is for, by what they are."""
     root = honest.root()
     yield 'under another root', NOTHING.hex(), 3, 'red hen'
@@ -2400,7 +2415,7 @@ def catalogs_asked(honest):
     yield 'for other weights', root, 3, 'red hen hen'
 
 
-def tying_rows(tie):
+def tying_rows(tie: Catalog) -> Iterator[tuple[str, Catalog]]:
     """Proofs of one row of three shards, of which the first and the last are the same."""
     first, middle, last = tie.proofs
     yield 'the other of two rows that tie', changed_copy(tie, proofs=[last, middle, first])
@@ -2408,20 +2423,20 @@ def tying_rows(tie):
     yield 'both of two rows that tie', changed_copy(tie, proofs=[first, middle, first])
 
 
-def catalogs(program, archives):
+def catalogs(program: Program, archives: Archives) -> list[Entry]:
     """Honest proofs and changed ones, each with what `catalog` prints of it. An honest one has the roots of its shards."""
     told = []
 
-    def tell(about, root, r, query, data, **other):
+    def tell(about: str, root: str, r: int, query: str, data: bytes, **other: Any) -> None:
         answer = client.catalog(root, r, query, data)
         told.append({'about': about, **other, 'root': root, 'r': r, 'query': query, **answer, 'proof': data.hex()})
 
-    def tell_changes(algorithm):
+    def tell_changes(algorithm: str) -> None:
         honest = in_catalog(program, archives, 'both formats', algorithm, 3, 'red hen')
         for about, changed_one in catalog_changes(honest):
             tell(f'{about} by {algorithm}', honest.root(), 3, 'red hen', changed_one.data())
-        for about, *asked in catalogs_asked(honest):
-            tell(f'{about} by {algorithm}', *asked, honest.data())
+        for about, root, r, query in catalogs_asked(honest):
+            tell(f'{about} by {algorithm}', root, r, query, honest.data())
         tie = in_catalog(program, archives, 'no word between', algorithm, 1, 'red hen')
         for about, changed_one in tying_rows(tie):
             tell(f'{about} by {algorithm}', tie.root(), 1, 'red hen', changed_one.data())
@@ -2451,7 +2466,7 @@ SHAPES = {'cut', 'magic', 'version', 'algorithm', 'count', 'order', 'trailing'}
 DOCUMENTS_ALONE = {'docs-misfit', 'docs-root', 'terms-misfit', 'terms-root', 'term-slot'}
 
 
-def look_over(told):
+def look_over(told: list[Entry]) -> None:
     """Each refusal and each kind of fault must occur, by each algorithm that has it."""
     for algorithm, wanted in (('tnra', REFUSALS - DOCUMENTS_ALONE), ('tra', REFUSALS)):
         words = [each['lines'][0].split() for each in told if each['of'].endswith(algorithm) and each['status'] == 1]
@@ -2460,7 +2475,7 @@ def look_over(told):
             raise SystemExit(f'{algorithm}: no vector for {sorted(missing)}')
 
 
-def save(name, items):
+def save(name: str, items: Union[list[Any], dict[str, Any]]) -> None:
     """A list with an item in each line, or an object with a member in each."""
     if isinstance(items, dict):
         lines, ends = [f'{json.dumps(key)}: {json.dumps(value)}' for key, value in items.items()], '{}'
@@ -2470,7 +2485,7 @@ def save(name, items):
     (HERE / name).write_text(text, encoding='ascii')
 
 
-def main(words):
+def main(words: list[str]) -> None:
     with tempfile.TemporaryDirectory() as folder:
         program = Program(Path(words[0]).resolve() if words else TOP / 'ats', folder)
         built = {name: Archive(*program.build(texts)) for name, texts in COLLECTIONS.items()}

@@ -12,6 +12,8 @@ import sys
 import tempfile
 import time
 import urllib.request
+from pathlib import Path
+from typing import Any, Callable, Iterator, Optional, Union
 
 QUIET = {"stdin": subprocess.DEVNULL, "stdout": subprocess.DEVNULL, "stderr": subprocess.DEVNULL}
 PATIENCE = 240  # seconds for the longest step, on a machine with much other work
@@ -36,11 +38,11 @@ os.execvp(sys.argv[3], sys.argv[3:])"""
 class Browser:
     """A browser without a window, with a new profile."""
 
-    def __init__(self):
+    def __init__(self) -> None:
         self.folder = tempfile.mkdtemp(prefix="page-test-")
-        self.process = None
+        self.process: "Optional[subprocess.Popen[bytes]]" = None
 
-    def close(self):
+    def close(self) -> None:
         if self.process:
             self.process.terminate()
             try:
@@ -55,7 +57,7 @@ class Chromium(Browser):
     name = "chromium"
     programs = ("chromium", "chromium-browser", "google-chrome")
 
-    def __init__(self, program):
+    def __init__(self, program: str) -> None:
         super().__init__()
         theirs, self.to = os.pipe()
         self.of, back = os.pipe()
@@ -82,7 +84,7 @@ class Chromium(Browser):
         for domain in ("Page", "Runtime", "Log", "Network"):
             self.send(domain + ".enable")
 
-    def message(self):
+    def message(self) -> dict[str, Any]:
         while b"\0" not in self.buffer:
             part = os.read(self.of, 1 << 20)
             if not part:
@@ -91,7 +93,7 @@ class Chromium(Browser):
         text, self.buffer = self.buffer.split(b"\0", 1)
         return json.loads(text)
 
-    def send(self, method, **words):
+    def send(self, method: str, **words: Any) -> dict[str, Any]:
         self.number += 1
         said = {"id": self.number, "method": method, "params": words}
         if self.session:
@@ -106,49 +108,49 @@ class Chromium(Browser):
             if "method" in got:
                 self.events.append(got)
 
-    def open(self, url):
+    def open(self, url: str) -> None:
         self.send("Page.navigate", url=url)
         wait(lambda: self.run("document.readyState") == "complete")
 
-    def run(self, expression):
+    def run(self, expression: str) -> Any:
         """The value of an expression in the page, which may be a promise."""
         got = self.send("Runtime.evaluate", expression=expression, awaitPromise=True, returnByValue=True)
         if "exceptionDetails" in got:
             raise RuntimeError(json.dumps(got["exceptionDetails"])[:600])
         return got["result"].get("value")
 
-    def press(self, key, text=""):
+    def press(self, key: str, text: str = "") -> None:
         code = {"Tab": 9, "Enter": 13, " ": 32, "ArrowDown": 40}[key]
         for kind in ("keyDown", "keyUp"):
             more = {"text": text} if text and kind == "keyDown" else {}
             self.send("Input.dispatchKeyEvent", type=kind, key=key, windowsVirtualKeyCode=code, **more)
 
-    def type(self, text):
+    def type(self, text: str) -> None:
         self.send("Input.insertText", text=text)
 
-    def size(self, width, height, dark=False):
+    def size(self, width: int, height: int, dark: bool = False) -> None:
         self.send("Emulation.setDeviceMetricsOverride", width=width, height=height, deviceScaleFactor=1, mobile=False)
         self.send(
             "Emulation.setEmulatedMedia",
             features=[{"name": "prefers-color-scheme", "value": "dark" if dark else "light"}],
         )
 
-    def screenshot(self, file):
+    def screenshot(self, file: Union[str, Path]) -> None:
         with open(file, "wb") as it:
             it.write(base64.b64decode(self.send("Page.captureScreenshot", format="png")["data"]))
 
-    def forget(self):
+    def forget(self) -> None:
         """Empties what the browser keeps of replies."""
         self.send("Network.clearBrowserCache")
 
-    def asked_hosts(self):
+    def asked_hosts(self) -> set[str]:
         return {
             it["params"]["request"]["url"].split("/")[2]
             for it in self.events
             if it["method"] == "Network.requestWillBeSent" and it["params"]["request"]["url"].startswith("http")
         }
 
-    def complaints(self):
+    def complaints(self) -> list[str]:
         """What the browser logged as an error, such as a breach of the policy. A file that is not there, as its icon,
         is none."""
         said = [it["params"]["entry"] for it in self.events if it["method"] == "Log.entryAdded"]
@@ -159,7 +161,7 @@ class Firefox(Browser):
     name = "firefox"
     programs = ("firefox-esr", "firefox")
 
-    def __init__(self, program):
+    def __init__(self, program: str) -> None:
         super().__init__()
         port = free_port()
         with open(os.path.join(self.folder, "user.js"), "w", encoding="ascii") as it:
@@ -172,13 +174,13 @@ class Firefox(Browser):
         self.send("WebDriver:NewSession")
         self.send("WebDriver:SetTimeouts", script=PATIENCE * 1000, pageLoad=60000)
 
-    def message(self):
+    def message(self) -> Any:
         size = b""
         while not size.endswith(b":"):
             size += self.received(1)
         return json.loads(self.received(int(size[:-1])))
 
-    def received(self, size):
+    def received(self, size: int) -> bytes:
         data = b""
         while len(data) < size:
             part = self.link.recv(size - len(data))
@@ -187,7 +189,7 @@ class Firefox(Browser):
             data += part
         return data
 
-    def send(self, command, **words):
+    def send(self, command: str, **words: Any) -> Any:
         self.number += 1
         said = json.dumps([0, self.number, command, words]).encode()
         self.link.sendall(str(len(said)).encode() + b":" + said)
@@ -198,13 +200,13 @@ class Firefox(Browser):
                     raise RuntimeError(f"{command}: {fault['message']}")
                 return value
 
-    def open(self, url):
+    def open(self, url: str) -> None:
         self.send("WebDriver:Navigate", url=url)
 
-    def size(self, width, height):
+    def size(self, width: int, height: int) -> None:
         self.send("WebDriver:SetWindowRect", width=width, height=height)
 
-    def run(self, expression):
+    def run(self, expression: str) -> Any:
         script = (
             "const done = arguments[0]; "
             f"(async () => ({expression}))().then(it => done([true, it]), it => done([false, String(it)]));"
@@ -222,7 +224,7 @@ class WebKit(Browser):
     programs = ("WebKitWebDriver",)
     windows = "/usr/lib/*/webkit2gtk-4.*/MiniBrowser"
 
-    def __init__(self, program):
+    def __init__(self, program: str) -> None:
         super().__init__()
         port = free_port()
         self.url = f"http://127.0.0.1:{port}/session"
@@ -237,20 +239,20 @@ class WebKit(Browser):
         begun = self.send("", {"capabilities": {"alwaysMatch": {"webkitgtk:browserOptions": options}}})
         self.url += "/" + begun["sessionId"]
 
-    def send(self, path, words, method="POST"):
+    def send(self, path: str, words: dict[str, Any], method: str = "POST") -> Any:
         request = urllib.request.Request(
             self.url + path, json.dumps(words).encode(), {"Content-Type": "application/json"}, method=method
         )
         with urllib.request.urlopen(request, timeout=PATIENCE) as reply:
             return json.load(reply)["value"]
 
-    def open(self, url):
+    def open(self, url: str) -> None:
         self.send("/url", {"url": url})
 
-    def run(self, expression):
+    def run(self, expression: str) -> Any:
         return self.send("/execute/sync", {"script": f"return {expression}", "args": []})
 
-    def close(self):
+    def close(self) -> None:
         try:
             self.send("", {}, "DELETE")
         finally:
@@ -258,11 +260,11 @@ class WebKit(Browser):
             super().close()
 
     @classmethod
-    def is_there(cls):
+    def is_there(cls) -> bool:
         return bool(shutil.which("xvfb-run") and glob.glob(cls.windows))
 
 
-def connected(port, process):
+def connected(port: int, process: "subprocess.Popen[bytes]") -> socket.socket:
     end = time.monotonic() + 60
     while process.poll() is None and time.monotonic() < end:
         try:
@@ -274,7 +276,7 @@ def connected(port, process):
     raise OSError("the browser does not answer")
 
 
-def wait(holds, seconds=60):
+def wait(holds: Callable[[], object], seconds: float = 60) -> None:
     end = time.monotonic() + seconds
     while not holds():
         if time.monotonic() > end:
@@ -282,7 +284,7 @@ def wait(holds, seconds=60):
         time.sleep(0.02)
 
 
-def installed():
+def installed() -> Iterator[tuple[type[Browser], Optional[str]]]:
     """For each browser its class and program, or None where it is not installed."""
     for kind in (Chromium, Firefox):
         yield kind, next(filter(None, map(shutil.which, kind.programs)), None)
