@@ -12,8 +12,8 @@ HOUSE = Path(__file__).resolve().parent.parent
 # The pages that share a limit, and the limit.
 LIMITS = {
     ("README.md",): 1700,
-    ("docs/architecture.md",): 1830,
-    ("docs/DECISIONS.md",): 4500,
+    ("docs/architecture.md",): 1465,
+    ("docs/DECISIONS.md",): 4095,
     ("docs/definitions.md",): 4200,
     ("docs/theorems.md",): 6750,
     ("docs/formats.md",): 9100,
@@ -21,6 +21,7 @@ LIMITS = {
     ("docs/questions.md", "docs/trust.md"): 2590,
     ("docs/owners.md", "docs/service.md"): 1715,
     ("bench/README.md", "vectors/README.md"): 3100,
+    ("CONTRIBUTING.md", "SECURITY.md", "CHANGELOG.md"): 770,
 }
 
 
