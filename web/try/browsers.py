@@ -15,15 +15,10 @@ import urllib.request
 from pathlib import Path
 from typing import Any, Callable, Iterator, Optional, Union
 
+from nginx import free_port
+
 QUIET = {"stdin": subprocess.DEVNULL, "stdout": subprocess.DEVNULL, "stderr": subprocess.DEVNULL}
 PATIENCE = 240  # seconds for the longest step, on a machine with much other work
-
-
-def free_port() -> int:
-    """A port that was free just now."""
-    with socket.socket() as it:
-        it.bind(("127.0.0.1", 0))
-        return it.getsockname()[1]
 
 
 # Chromium reads from file descriptor 3 and writes to 4.
