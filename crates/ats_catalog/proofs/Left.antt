@@ -6,9 +6,10 @@ use Rattle.std.proofs.Math.Nat.{mul-add}
 use Rattle.std.proofs.lemmas.List.Sums.{sum_by-append, sum_by-take-drop}
 use Rattle.std.proofs.lemmas.List.Elements.{All-nil, All-cons}
 use Rattle.ats_proof.specs.Value.{Proof, IsProof, items_of}
+use Rattle.ats_proof.proofs.Public.{in_range}
 use Rattle.ats_shards.specs.Value.{Framed, frame_at}
 use Rattle.ats_catalog.specs.declared.row.CatalogRow.{CatalogRow}
-use Rattle.ats_catalog.specs.Accepts.{HaveItems, shown_of}
+use Rattle.ats_catalog.specs.Accepts.{MeetAtMost, HaveItems, shown_of}
 use Rattle.ats_catalog.specs.Merge.{Shown, merge, merged, in_shard, greatest_rest, AreFalling}
 use Rattle.ats_catalog.specs.Inner.Checked.{IsChecked, IsLeft, AreLeft}
 use Rattle.ats_catalog.specs.Inner.Kept.{AreBefore, IsKeptIf, HasOrdered}
@@ -22,6 +23,10 @@ shard_is [] left zero one is some = absurd (let none : ◌≡◌ {A = Option Fra
 shard_is [] left (suc i) one is some = absurd (let none : ◌≡◌ {A = Option Framed} (Some one) None = some ∙ ap (λ (l : List Framed). slice_get l 0) is in cc)
 shard_is (f ∷ shards) left zero one is some = let same : ◌≡◌ {A = Option Framed} (Some one) (Some f) = some ∙ ap (λ (l : List Framed). slice_get l 0) is in cc
 shard_is (f ∷ shards) left (suc i) one is some = shard_is shards left i one is some
+
+-- no proof meets more documents than its format has room for
+pub met_at_most : (shards : List Framed) → MeetAtMost shards 65536
+met_at_most shards i proof low is = (in_range (frame_at shards i).bytes proof is).ids.few
 
 -- the items of a shard's proof
 pub items_at : (shards : List Framed) (items : List ℕ) → HaveItems shards items → (i : ℕ) → i < length shards

@@ -1,7 +1,6 @@
 -- What a catalog's proof shows breaks at most one rule first, and none if it is accepted.
-use Rattle.std.proofs.Common.{◌≡◌, ◌<◌, ◌+◌, ◌++◌, ◌∙◌, ℕ, zero, suc, List, [], ◌∷◌, length, map, take, refl, sym, ap, ap₂, subst, inl, inr, true, Result, Ok, Err, arith}
+use Rattle.std.proofs.Common.{◌≡◌, ◌<◌, ◌+◌, ◌++◌, ◌∙◌, ℕ, zero, suc, List, [], ◌∷◌, length, map, take, refl, sym, ap, ap₂, subst, inl, inr, arith}
 use Rattle.std.specs.List.{AllZip}
-use Rattle.std.specs.Result.{is_ok, IfErr}
 use Rattle.ats_base.specs.Rules.{Group, AllHold, IsFirstFault}
 use Rattle.ats_base.proofs.Public.{AreExact, not_all_hold, one_first}
 use Rattle.ats_grammar.specs.Grammar.{proof_schema}
@@ -87,10 +86,6 @@ module _ (H : List ℕ → List ℕ) (root : List ℕ) (query : List (List ℕ �
 
   pub not_refused : (refusal : CatalogRefusal) → AcceptsCatalog H root query r shards → IsFirstCatalogRefusal H root query r shards refusal → ⊥
   not_refused refusal accepts is = not_all_hold (catalog_rules H root query r shards) refusal exact is.first accepts.holds
-
-  pub accepted : {T : Type 0} (result : Result T CatalogRefusal) → IfErr result (IsFirstCatalogRefusal H root query r shards) → AcceptsCatalog H root query r shards → is_ok result ≡ true
-  accepted (Ok unit) refused accepts = refl
-  accepted (Err refusal) refused accepts = absurd (not_refused refusal accepts refused)
 
 -- ---- the rules of the shards, one after another
 

@@ -2,7 +2,6 @@
 
 ghost use Rattle.std.specs.Prelude.{◌≡◌, ◌≢◌, ◌↔◌, ◌<◌, ◌≤◌, ◌+◌, ◌*◌, ◌^◌, ℕ, List, [], length, map, max, sum, take, true, false, IsTrue, IsOk, OnOk, IfOk, IfErr};
 ghost use Rattle.ats_proof.specs.Value.{Proof, IsProof, items_of};
-ghost use Rattle.ats_refusal.specs.declared.catalog.CatalogRefusal.TheVariants.{OtherRoot, Shard as OfShard};
 ghost use Rattle.ats_shards.specs.Catalog.{root_over};
 ghost use Rattle.ats_shards.specs.Seen.{framed_of};
 ghost use Rattle.ats_shards.specs.Value.{Framed, frame_at, shown_roots};
@@ -23,23 +22,6 @@ use ats_proof::ProofView;
 use ats_refusal::{CatalogRefusal, Rejection};
 use ats_shards::{CatalogView, Shard, root_of_view};
 use ats_terms::Query;
-
-// Checks the root of the catalog.
-fn check_root<H: Hash32>(
-    root: &[u8; 32],
-    view: &CatalogView<'_>,
-    steps: &mut Steps,
-) -> Result<(), CatalogRefusal>
-    requires space { steps.old ≤ 2 ^ 62 }
-    ensures same { OnOk result (root_over H.hash (shown_roots view.now) ≡ root.now) }
-    ensures other { IfErr result (λ refusal. (refusal ≡ OtherRoot) × (root_over H.hash (shown_roots view.now) ≢ root.now)) }
-    ensures cost { steps.new ≡ steps.old + 2 * length view.now }
-{
-    if root_of_view::<H>(view, steps) != *root {
-        return Err(CatalogRefusal::OtherRoot);
-    }
-    Ok(())
-}
 
 // Checks the proof of one shard, and merges its rows with those of the shards before it, if these fall. Returns whether they
 // still do, and the shard's rest.
@@ -148,8 +130,8 @@ fn is_settled(fall: bool, rest: u64, rows: &CatalogRows, top: u32) -> bool
 /// archives of the catalog that the root commits to, each scored in its own archive. The rows of the answer replace those
 /// that were there. If a rule is broken, returns the first one.
 ///
-/// It allocates nothing. The marks are begun again for each shard; [`most_met`](crate::most_met) says how many there must be
-/// room for. After a refusal there are no rows.
+/// It allocates nothing. The marks are begun again for each shard; room for [`MAX_MET`](crate::MAX_MET) is always enough.
+/// After a refusal there are no rows. No proof is looked at under another root.
 pub fn check_catalog<H: Hash32>(
     root: &[u8; 32],
     query: &Query,
@@ -167,50 +149,32 @@ pub fn check_catalog<H: Hash32>(
     ensures rows { OnOk result (AreRowsOf query.now view.now rows.new.rows) }
     ensures exact { AcceptsCatalog H.hash root.now query.now top view.now → IsOk result }
     ensures refused { IfErr result (IsFirstCatalogRefusal H.hash root.now query.now top view.now) }
+    ensures early { root_over H.hash (shown_roots view.now) ≢ root.now → steps.new ≡ steps.old + 2 * length view.now }
+    ensures untouched { root_over H.hash (shown_roots view.now) ≢ root.now → work.new ≡ work.old }
     ensures emptied { IfErr result (λ refusal. rows.new.rows ≡ []) }
     ensures work_room { work.new.room ≡ work.old.room }
     ensures rows_room { rows.new.room ≡ rows.old.room }
     ensures steps { (items : List ℕ) → HaveItems view.now items
         → steps.new ≤ steps.old + (top + 8) * sum items + 66 * length view.now }
 {
-    let result = checked::<H>(root, query, top, view, work, rows, steps);
-    if result.is_err() {
-        rows.clear();
-    }
-    result
-}
-
-// The check, rule by rule.
-fn checked<H: Hash32>(
-    root: &[u8; 32],
-    query: &Query,
-    top: Top,
-    view: &CatalogView<'_>,
-    work: &mut Work,
-    rows: &mut CatalogRows,
-    steps: &mut Steps,
-) -> Result<(), CatalogRefusal>
-    requires work { MeetAtMost view.now work.old.room }
-    requires room { top ≤ rows.old.room }
-    requires count { steps.old ≤ 2 ^ 60 }
-    ensures accepts { OnOk result (AcceptsCatalog H.hash root.now query.now top view.now) }
-    ensures headline { OnOk result (IsCatalogTopOrCollides H.hash root.now query.now top view.now) }
-    ensures rows { OnOk result (AreRowsOf query.now view.now rows.new.rows) }
-    ensures refused { IfErr result (IsFirstCatalogRefusal H.hash root.now query.now top view.now) }
-    ensures work_room { work.new.room ≡ work.old.room }
-    ensures rows_room { rows.new.room ≡ rows.old.room }
-    ensures steps { (items : List ℕ) → HaveItems view.now items
-        → steps.new ≤ steps.old + (top + 8) * sum items + 66 * length view.now }
-{
     view.is_in_range();
-    check_root::<H>(root, view, steps)?;
-    match check_shards::<H>(query, view, top.get(), work, rows, steps) {
+    let most = top.get();
+    let shown = root_of_view::<H>(view, steps);
+    if shown != *root {
+        rows.clear();
+        return Err(CatalogRefusal::OtherRoot);
+    }
+    match check_shards::<H>(query, view, most, work, rows, steps) {
         Ok((fall, rest)) => {
-            if !is_settled(fall, rest, rows, top.get()) {
-                return Err(CatalogRefusal::NotSettled);
+            if is_settled(fall, rest, rows, most) {
+                return Ok(());
             }
-            Ok(())
+            rows.clear();
+            Err(CatalogRefusal::NotSettled)
         }
-        Err(refusal) => Err(refusal),
+        Err(refusal) => {
+            rows.clear();
+            Err(refusal)
+        }
     }
 }

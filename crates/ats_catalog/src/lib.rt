@@ -4,7 +4,7 @@
 //! then checks what each proof shows under its shard's root, and merges the rows: of the next rows of all shards the one
 //! that scores most at least, then most at most, then that of the first shard. The answer is settled if the merged rows
 //! fall and no other document can score more than the last of them. It allocates nothing: the caller lends the marks
-//! ([`most_met`] says how many) and the room for the rows. [`verify_catalog`] goes from bytes to rows.
+//! ([`MAX_MET`] are enough) and the room for the rows. [`verify_catalog`] goes from bytes to rows.
 //!
 //! The room stands on `ats_client` for what a proof shows, and on `ats_shards` for the bytes and the root of a catalog; it
 //! knows no index. A proof is accepted exactly if all rules of `specs/Accepts.antt` hold, else refused by the first that
@@ -38,4 +38,4 @@ pub use laws::{
     accepted_catalogs_are_top, catalogs_have_one_refusal, one_shard_settles_as_its_proof,
 };
 pub use row::{CatalogRow, CatalogRows};
-pub use verifying::{most_met, verify_catalog};
+pub use verifying::{MAX_MET, verify_catalog};
