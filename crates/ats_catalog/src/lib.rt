@@ -34,8 +34,6 @@ mod verifying;
 pub use ats_refusal::CatalogRefusal;
 pub use checking::check_catalog;
 pub use fault::CatalogFault;
-pub use laws::{
-    accepted_catalogs_are_top, catalogs_have_one_refusal, one_shard_settles_as_its_proof,
-};
+pub use laws::{accepted_catalogs_are_top, catalogs_have_one_refusal, one_shard_is_the_check};
 pub use row::{CatalogRow, CatalogRows};
 pub use verifying::{MAX_MET, verify_catalog};
