@@ -1,4 +1,4 @@
-/* The checks of what an archive's server sends: five calls, and two for words. README.md says how to link, and what is
+/* The checks of what an archive's server sends: seven calls, and two for words. README.md says how to link, and what is
  * proved.
  *
  * Never pass a null pointer, even with 0 bytes. Pointers are aligned as their types are. What a call writes overlaps
@@ -18,30 +18,37 @@ extern "C" {
 /* A document of an answer: its number in the archive, from 0, and bounds of its score. */
 struct ats_row { uint64_t doc, lower, upper; };
 
+/* A document of a catalog's answer: its shard, from 0, its number there, from 0, and bounds of its score. */
+struct ats_catalog_row { uint64_t shard, doc, lower, upper; };
+
 /* A term of a query: size bytes of UTF-8 (the rest of word is 0), and how often the query has it. */
 struct ats_term { uint8_t word[64]; uint32_t size, weight; };
 
 struct ats_verdict {
     uint32_t status;        /* 0 accepted; 1 refused; 2 the query is not UTF-8, or there is too little room; 4 r is not
-                               1 to 1,000, or the query is out of its limits; 6 no memory */
+                               1 to 1,000, or the query or the roots are out of their limits; 6 no memory */
     uint32_t reason;        /* 0, or which fault: the first of the list below that the call comes to */
-    uint64_t count;         /* how many rows, documents or terms are shown; 0 unless the status is 0 */
+    uint64_t count;         /* status 0: how many rows, documents, terms or shards there are; a reason of 64 or more:
+                               the number of the shard, from 0; else 0 */
     uint64_t first, second; /* status 0: what the call says; else the numbers of the fault as listed below, or 0 */
 };
 
 /* Faults; ats_line has their words, and docs/formats.md what they mean. They are found in the order of these lists. The
  * status is 1 unless it stands here. In brackets stands what `first` is, and after a comma what `second` is.
- * All of a query: 1 not UTF-8 (status 2); by ats_check alone then 2 r (r; status 4), 3 room for rows (the room; status
- *   2); and then, with status 4, 4 bytes (how many), 5 no term, 6 words (how many), 7 terms (how many distinct).
- *   34 memory (status 6), at any time.
- * All but ats_query, of the shape: 8 long (the limit); 9 cut, 10 magic, 11 version, 12 algorithm, 13 count, 14 order,
- *   15 trailing (the offset in the file).
+ * All of a query: 1 not UTF-8 (status 2); by ats_check and ats_catalog then 2 r (r; status 4), 3 room for rows (the
+ *   room; status 2); and then, with status 4, 4 bytes (how many), 5 no term, 6 words (how many), 7 terms (how many
+ *   distinct). 34 memory (status 6), at any time.
+ * All of a proof or a file, of the shape: 8 long (the limit); 9 cut, 10 magic, 11 version, 12 algorithm, 13 count,
+ *   14 order, 15 trailing (the offset in the file).
  * ats_both: 35 not-tra, 36 answer-shown (rows). ats_check, ats_both: 16 other-root, 17 slot-count (how many are shown),
  *   18 dict-misfit, 19 dict-root, 20 slot-wrong (term), 21 index-out (term, entry), 22 repeated (term, entry),
  *   23 list-misfit (term), 24 list-root (term), 25 unmet (index), 26 docs-misfit, 27 docs-root,
  *   28 terms-misfit (document), 29 terms-root (document), 30 term-slot (document, term). ats_check: 31 answer-out
  *   (row), 32 answer-repeated (row), 33 not-settled. ats_both: 37 no-whole-list, 38 room for documents (the room, how
  *   many there are; status 2).
+ * ats_catalog: 16 other-root; 64 more than the reason, 8 to 32, that ats_check has for the proof of a shard under the
+ *   shard's root (the numbers of that fault; an offset is one in the shard's proof); 33 not-settled.
+ * ats_catalog_root: 49 roots (how many bytes; status 4).
  * ats_text: 16 other-root, 39 doc-out (documents), 40 text-misfit (digests), 41 text-root.
  * ats_growth: 42 other-old, 43 other-new, 44 shrunk (old documents, new), 45 growth-misfit (digests), 46 old-texts,
  *   47 new-texts.
@@ -59,6 +66,15 @@ void ats_check(const uint8_t *proof, size_t proof_size, const uint8_t *root, con
  * enough. Status 0: docs has the numbers of all these documents, rising. There may be none. */
 void ats_both(const uint8_t *proof, size_t proof_size, const uint8_t *root, const uint8_t *query, size_t query_size,
               uint32_t *docs, size_t room, struct ats_verdict *verdict);
+
+/* Checks a catalog's proof under the catalog's root, for a query and the best r documents of all shards. rows and its
+ * room are as for ats_check. */
+void ats_catalog(const uint8_t *proof, size_t proof_size, const uint8_t *root, const uint8_t *query, size_t query_size,
+                 uint32_t r, struct ats_catalog_row *rows, size_t room, struct ats_verdict *verdict);
+
+/* Computes the root of a catalog. roots has the roots of its shards, 1 to 4,096 of 32 bytes one after another, shard 0
+ * first. Status 0: root has the 32 bytes of the catalog's root, and verdict->count is the number of shards. */
+void ats_catalog_root(const uint8_t *roots, size_t roots_size, uint8_t *root, struct ats_verdict *verdict);
 
 /* Checks a file that gives the text of document doc, from 0. Status 0: the text is the verdict->second bytes of the
  * file from byte verdict->first on, counted from 0. They may be any bytes, and none. */

@@ -1,27 +1,19 @@
 -- What `ats_check` shows, and why it shows nothing.
-use Rattle.std.specs.Prelude.{◌≡◌, ◌⊎◌, ◌<◌, ◌≤◌, ℕ, List, length, map}
-use Rattle.std.specs.Str.{IsUtf8}
+use Rattle.std.specs.Prelude.{◌≡◌, ℕ, List, length, map}
 use Rattle.sha2.specs.Sha256.{sha256}
 use Rattle.ats_terms.specs.Query.{IsQueryOf}
-use Rattle.ats_terms.specs.Faults.{IsFirstFault}
 use Rattle.ats_proof.specs.Value.{Proof}
 use Rattle.ats_client.specs.Bytes.{IsAcceptedBytes, IsRejectedBytes}
 use Rattle.ats_client.specs.Headline.{IsTopOrCollides}
 use Rattle.ats_client.specs.Rows.{rows_of}
 use Rattle.ats_refusal.specs.declared.proof.Rejection.TheVariants.{Shape, Check}
+use Rattle.ats_reader.specs.Asked.{IsAsked, IsAskedFault}
 use Rattle.ats_reader.specs.Shown.{IsShown}
 use Rattle.ats_reader.specs.Verdicts.{shown_row, accepted}
 use Rattle.ats_reader.specs.declared.fault.Fault.{Fault}
-use Rattle.ats_reader.specs.declared.fault.Fault.TheVariants.{NoText, RowsOut, FewRows, NoQuery, BadShape, Refused, OutOfMemory}
+use Rattle.ats_reader.specs.declared.fault.Fault.TheVariants.{BadShape, Refused, OutOfMemory}
 use Rattle.ats_reader.specs.declared.shown.ShownRow.{ShownRow}
 use Rattle.ats_reader.specs.declared.shown.Verdict.{Verdict}
-
--- the query is a text, and the number of rows is within its limits and the room
-pub record IsAsked (text : List ℕ) (r room : ℕ) : Type 0 where
-  pub utf8 : IsUtf8 text
-  pub some : 1 ≤ r
-  pub few : r ≤ 1000
-  pub fits : r ≤ room
 
 -- the bytes spell an accepted proof under the root for the terms of the text, so that for every archive with the root its
 -- rows are right or strings collide; these rows are shown
@@ -37,13 +29,9 @@ pub record IsAnswer (root text : List ℕ) (r : ℕ) (bytes : List ℕ) (before 
 
 -- why nothing is shown, in the order in which it is found; out of memory needs no cause
 abbrev pub IsFault : List ℕ → List ℕ → ℕ → List ℕ → ℕ → Fault → Type 0
-IsFault root text r bytes room NoText = ¬ IsUtf8 text
-IsFault root text r bytes room (RowsOut told) = IsUtf8 text × (told ≡ r) × ((r ≡ 0) ⊎ (1000 < r))
-IsFault root text r bytes room (FewRows told) = IsUtf8 text × (told ≡ room) × (1 ≤ r) × (r ≤ 1000) × (room < r)
-IsFault root text r bytes room (NoQuery fault) = IsAsked text r room × IsFirstFault text fault
 IsFault root text r bytes room (BadShape fault) =
     IsAsked text r room × (query : List (List ℕ × ℕ)) × IsQueryOf text query × IsRejectedBytes sha256 root query r bytes (Shape fault)
 IsFault root text r bytes room (Refused refusal) =
     IsAsked text r room × (query : List (List ℕ × ℕ)) × IsQueryOf text query × IsRejectedBytes sha256 root query r bytes (Check refusal)
 IsFault root text r bytes room OutOfMemory = Unit {0}
-IsFault root text r bytes room _ = ⊥
+IsFault root text r bytes room fault = IsAskedFault text r room fault

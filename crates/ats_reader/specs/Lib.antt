@@ -1,5 +1,6 @@
 pub mod Asked
 pub mod Answer
+pub mod Catalog
 pub mod Both
 pub mod Text
 pub mod Growth

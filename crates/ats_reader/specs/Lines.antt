@@ -1,11 +1,15 @@
 -- The line of a verdict, as the commands print it, without the line feed.
-use Rattle.std.specs.Prelude.{◌++◌, [], ◌==◌, ◌^◌, ℕ, List, Option, Some, None, nat_lt, codes, decimal, if◌then◌else◌}
+use Rattle.std.specs.Prelude.{◌++◌, [], ◌==◌, ◌&&◌, ◌-◌, ◌^◌, ℕ, Bool, List, Option, Some, None, option_map, nat_lt, codes, decimal, if◌then◌else◌}
 use Rattle.ats_grammar.specs.declared.fault.ShapeKind.{ShapeKind}
 use Rattle.ats_grammar.specs.declared.fault.ShapeKind.TheVariants.{Long, Cut, Magic, Version, Algorithm, Count, Order, Trailing}
-use Rattle.ats_refusal.specs.Words.{shape_words, refusal_words, text_refusal_words, both_refusal_words, growth_refusal_words}
+use Rattle.ats_refusal.specs.Words.{refusal_words, rejection_words, catalog_refusal_words, text_refusal_words, both_refusal_words, growth_refusal_words}
+use Rattle.ats_refusal.specs.declared.catalog.CatalogRefusal.TheVariants.{Shard}
 use Rattle.ats_refusal.specs.declared.documents.BothRefusal.TheVariants.{NotTra, AnswerShown, NoWholeList}
 use Rattle.ats_refusal.specs.declared.growth.GrowthRefusal.TheVariants.{OtherOld, OtherNew, Shrunk, GrowthMisfit, OldTexts, NewTexts}
+use Rattle.ats_refusal.specs.declared.proof.Refusal.{Refusal}
 use Rattle.ats_refusal.specs.declared.proof.Refusal.TheVariants.{OtherRoot, SlotCount, DictMisfit, DictRoot, SlotWrong, IndexOut, Repeated, ListMisfit, ListRoot, Unmet, DocsMisfit, DocsRoot, TermsMisfit, TermsRoot, TermSlot, AnswerOut, AnswerRepeated, NotSettled}
+use Rattle.ats_refusal.specs.declared.proof.Rejection.{Rejection}
+use Rattle.ats_refusal.specs.declared.proof.Rejection.TheVariants.{Shape, Check}
 use Rattle.ats_refusal.specs.declared.text.TextRefusal.TheVariants as text
 use Rattle.ats_reader.specs.declared.shown.Verdict.{Verdict}
 
@@ -22,27 +26,32 @@ shape_of reason =
     else if reason == 15 then Some Trailing
     else None
 
--- the words of a rule that does not hold
+-- a rule that a proof breaks before its answer is settled
+abbrev pub refusal_of : (reason first second : ℕ) → Option Refusal
+refusal_of reason first second =
+    if reason == 16 then Some OtherRoot
+    else if reason == 17 then Some (SlotCount first)
+    else if reason == 18 then Some DictMisfit
+    else if reason == 19 then Some DictRoot
+    else if reason == 20 then Some (SlotWrong first)
+    else if reason == 21 then Some (IndexOut first second)
+    else if reason == 22 then Some (Repeated first second)
+    else if reason == 23 then Some (ListMisfit first)
+    else if reason == 24 then Some (ListRoot first)
+    else if reason == 25 then Some (Unmet first)
+    else if reason == 26 then Some DocsMisfit
+    else if reason == 27 then Some DocsRoot
+    else if reason == 28 then Some (TermsMisfit first)
+    else if reason == 29 then Some (TermsRoot first)
+    else if reason == 30 then Some (TermSlot first second)
+    else if reason == 31 then Some (AnswerOut first)
+    else if reason == 32 then Some (AnswerRepeated first)
+    else None
+
+-- the words of any other rule that does not hold
 abbrev pub rule_words : (reason first second : ℕ) → Option (List ℕ)
 rule_words reason first second =
-    if reason == 16 then Some (refusal_words OtherRoot)
-    else if reason == 17 then Some (refusal_words (SlotCount first))
-    else if reason == 18 then Some (refusal_words DictMisfit)
-    else if reason == 19 then Some (refusal_words DictRoot)
-    else if reason == 20 then Some (refusal_words (SlotWrong first))
-    else if reason == 21 then Some (refusal_words (IndexOut first second))
-    else if reason == 22 then Some (refusal_words (Repeated first second))
-    else if reason == 23 then Some (refusal_words (ListMisfit first))
-    else if reason == 24 then Some (refusal_words (ListRoot first))
-    else if reason == 25 then Some (refusal_words (Unmet first))
-    else if reason == 26 then Some (refusal_words DocsMisfit)
-    else if reason == 27 then Some (refusal_words DocsRoot)
-    else if reason == 28 then Some (refusal_words (TermsMisfit first))
-    else if reason == 29 then Some (refusal_words (TermsRoot first))
-    else if reason == 30 then Some (refusal_words (TermSlot first second))
-    else if reason == 31 then Some (refusal_words (AnswerOut first))
-    else if reason == 32 then Some (refusal_words (AnswerRepeated first))
-    else if reason == 33 then Some (refusal_words NotSettled)
+    if reason == 33 then Some (refusal_words NotSettled)
     else if reason == 35 then Some (both_refusal_words NotTra)
     else if reason == 36 then Some (both_refusal_words (AnswerShown first))
     else if reason == 37 then Some (both_refusal_words NoWholeList)
@@ -57,12 +66,34 @@ rule_words reason first second =
     else if reason == 47 then Some (growth_refusal_words NewTexts)
     else None
 
--- the words of a refusal after the first one; no rule has numbers of 2^32 or more
-abbrev pub refused_words : (reason first second : ℕ) → Option (List ℕ)
-refused_words reason first second = elim (shape_of reason) [
-  | Some kind ↦ Some (shape_words kind ++ decimal first)
-  | None ↦ if nat_lt first (2 ^ 32) then (if nat_lt second (2 ^ 32) then rule_words reason first second else None) else None
+-- no rule has numbers of 2^32 or more
+abbrev pub are_small : (first second : ℕ) → Bool
+are_small first second = nat_lt first (2 ^ 32) && nat_lt second (2 ^ 32)
+
+-- what is wrong with a proof before its answer is settled
+abbrev pub rejection_of : (reason first second : ℕ) → Option Rejection
+rejection_of reason first second = elim (shape_of reason) [
+  | Some kind ↦ Some (Shape (record { at = first; kind = kind }))
+  | None ↦ if are_small first second then option_map Check (refusal_of reason first second) else None
 ]
+
+-- the words of a refusal after the first one
+abbrev pub refused_words : (reason first second : ℕ) → Option (List ℕ)
+refused_words reason first second = elim (rejection_of reason first second) [
+  | Some rejection ↦ Some (rejection_words rejection)
+  | None ↦ if are_small first second then rule_words reason first second else None
+]
+
+-- the same if the proof of a shard is refused
+abbrev pub shard_words : (shard reason first second : ℕ) → Option (List ℕ)
+shard_words shard reason first second =
+    if nat_lt shard (2 ^ 32) then option_map (λ (rejection : Rejection). catalog_refusal_words (Shard shard rejection)) (rejection_of reason first second) else None
+
+-- from 64 on a reason is one of a shard's proof
+abbrev pub words_of : Verdict → Option (List ℕ)
+words_of verdict =
+    if nat_lt verdict.reason 64 then refused_words verdict.reason verdict.first verdict.second
+    else shard_words verdict.count (verdict.reason - 64) verdict.first verdict.second
 
 -- the line of any other reason; what is accepted has none, and neither have other numbers
 abbrev pub other_words : (reason first : ℕ) → List ℕ
@@ -77,10 +108,11 @@ other_words reason first =
     else if reason == 34 then codes "memory"
     else if reason == 38 then codes "usage: room for " ++ (decimal first ++ codes " documents")
     else if reason == 48 then codes "usage: room for " ++ (decimal first ++ codes " terms")
+    else if reason == 49 then codes "input: roots of " ++ (decimal first ++ codes " bytes")
     else []
 
 abbrev pub line_of : Verdict → List ℕ
-line_of verdict = elim (refused_words verdict.reason verdict.first verdict.second) [
+line_of verdict = elim (words_of verdict) [
   | Some words ↦ codes "refused: " ++ words
   | None ↦ other_words verdict.reason verdict.first
 ]

@@ -1,5 +1,5 @@
 -- The numbers of each verdict: the status is the one with which the command ends, and the reason numbers the faults.
-use Rattle.std.specs.Prelude.{◌++◌, ◌-◌, ℕ, List, length, replicate}
+use Rattle.std.specs.Prelude.{◌++◌, ◌+◌, ◌-◌, ℕ, List, length, replicate}
 use Rattle.ats_terms.specs.declared.query.QueryFault.{QueryFault}
 use Rattle.ats_terms.specs.declared.query.QueryFault.TheVariants as query
 use Rattle.ats_impact.specs.declared.rank.Row.{Row}
@@ -7,27 +7,36 @@ use Rattle.ats_grammar.specs.declared.fault.ShapeKind.{ShapeKind}
 use Rattle.ats_grammar.specs.declared.fault.ShapeKind.TheVariants.{Long, Cut, Magic, Version, Algorithm, Count, Order, Trailing}
 use Rattle.ats_refusal.specs.declared.proof.Refusal.{Refusal}
 use Rattle.ats_refusal.specs.declared.proof.Refusal.TheVariants.{OtherRoot, SlotCount, DictMisfit, DictRoot, SlotWrong, IndexOut, Repeated, ListMisfit, ListRoot, Unmet, DocsMisfit, DocsRoot, TermsMisfit, TermsRoot, TermSlot, AnswerOut, AnswerRepeated, NotSettled}
+use Rattle.ats_refusal.specs.declared.proof.Rejection.{Rejection}
+use Rattle.ats_refusal.specs.declared.proof.Rejection.TheVariants.{Shape, Check}
+use Rattle.ats_refusal.specs.declared.catalog.CatalogRefusal.{CatalogRefusal}
+use Rattle.ats_refusal.specs.declared.catalog.CatalogRefusal.TheVariants as catalog
 use Rattle.ats_refusal.specs.declared.documents.BothRefusal.{BothRefusal}
 use Rattle.ats_refusal.specs.declared.documents.BothRefusal.TheVariants.{NotTra, AnswerShown, Section, NoWholeList}
 use Rattle.ats_refusal.specs.declared.text.TextRefusal.{TextRefusal}
 use Rattle.ats_refusal.specs.declared.text.TextRefusal.TheVariants as text
 use Rattle.ats_refusal.specs.declared.growth.GrowthRefusal.{GrowthRefusal}
 use Rattle.ats_refusal.specs.declared.growth.GrowthRefusal.TheVariants.{OtherOld, OtherNew, Shrunk, GrowthMisfit, OldTexts, NewTexts}
+use Rattle.ats_catalog.specs.declared.row.CatalogRow.{CatalogRow}
 use Rattle.ats_reader.specs.declared.fault.Fault.{Fault}
-use Rattle.ats_reader.specs.declared.fault.Fault.TheVariants.{NoText, RowsOut, FewRows, NoQuery, BadShape, Refused, BothRefused, FewDocuments, TextRefused, GrowthRefused, FewTerms, OutOfMemory}
+use Rattle.ats_reader.specs.declared.fault.Fault.TheVariants.{NoText, RowsOut, FewRows, NoQuery, BadShape, Refused, BothRefused, FewDocuments, TextRefused, GrowthRefused, FewTerms, CatalogRefused, RootsOut, OutOfMemory}
 use Rattle.ats_reader.specs.declared.shown.ShownRow.{ShownRow}
+use Rattle.ats_reader.specs.declared.shown.ShownCatalogRow.{ShownCatalogRow}
 use Rattle.ats_reader.specs.declared.shown.ShownTerm.{ShownTerm}
 use Rattle.ats_reader.specs.declared.shown.Verdict.{Verdict}
 
 abbrev pub shown_row : Row → ShownRow
 shown_row row = record { doc = row.doc; lower = row.lower; upper = row.upper }
 
+abbrev pub shown_catalog_row : CatalogRow → ShownCatalogRow
+shown_catalog_row row = record { shard = row.shard; doc = row.doc; lower = row.lower; upper = row.upper }
+
 -- a term and its weight: the bytes of the term, and 0 up to 64 bytes
 abbrev pub shown_term : List ℕ × ℕ → ShownTerm
 shown_term pair =
     record { word = pair.0 ++ replicate (64 - length pair.0) 0; size = length pair.0; weight = pair.1 }
 
--- of what is accepted: how many rows, documents or terms are shown, and what else is said
+-- of what is accepted: how many rows, documents, terms or shards there are, and what else is said
 abbrev pub accepted : (count first second : ℕ) → Verdict
 accepted count first second = record { status = 0; reason = 0; count = count; first = first; second = second }
 
@@ -72,6 +81,20 @@ verdict_of_refusal (AnswerOut row) = refused 1 31 row 0
 verdict_of_refusal (AnswerRepeated row) = refused 1 32 row 0
 verdict_of_refusal NotSettled = refused 1 33 0 0
 
+abbrev pub verdict_of_rejection : Rejection → Verdict
+verdict_of_rejection (Shape fault) = verdict_of_shape fault.kind fault.at
+verdict_of_rejection (Check refusal) = verdict_of_refusal refusal
+
+-- the verdict of a proof as that of a shard, whose number takes the place of the count
+abbrev pub of_shard : ℕ → Verdict → Verdict
+of_shard shard verdict =
+    record { status = verdict.status; reason = verdict.reason + 64; count = shard; first = verdict.first; second = verdict.second }
+
+abbrev pub verdict_of_catalog : CatalogRefusal → Verdict
+verdict_of_catalog catalog.OtherRoot = refused 1 16 0 0
+verdict_of_catalog (catalog.Shard shard rejection) = of_shard shard (verdict_of_rejection rejection)
+verdict_of_catalog catalog.NotSettled = refused 1 33 0 0
+
 abbrev pub verdict_of_both : BothRefusal → Verdict
 verdict_of_both NotTra = refused 1 35 0 0
 verdict_of_both (AnswerShown rows) = refused 1 36 rows 0
@@ -104,4 +127,6 @@ verdict_of (FewDocuments room documents) = refused 2 38 room documents
 verdict_of (TextRefused refusal) = verdict_of_text refusal
 verdict_of (GrowthRefused refusal) = verdict_of_growth refusal
 verdict_of (FewTerms room terms) = refused 2 48 room terms
+verdict_of (CatalogRefused refusal) = verdict_of_catalog refusal
+verdict_of (RootsOut bytes) = refused 4 49 bytes 0
 verdict_of OutOfMemory = refused 6 34 0 0

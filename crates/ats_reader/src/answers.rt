@@ -4,15 +4,18 @@ ghost use Rattle.std.specs.Prelude.{◌≡◌, ◌≤◌, ℕ, List, length, IfO
 ghost use Rattle.sha2.specs.Sha256.{sha256};
 ghost use Rattle.ats_terms.specs.Query.{IsQueryOf};
 ghost use Rattle.ats_client.specs.Bytes.{AreVerifiedRows};
-ghost use Rattle.ats_reader.specs.Answer.{IsAsked, IsFault};
-ghost use Rattle.ats_reader.specs.Asked.{IsReadFault};
+ghost use Rattle.ats_catalog.specs.Bytes.{AreVerifiedRows as AreCatalogRows};
+ghost use Rattle.ats_reader.specs.Answer.{IsFault};
+ghost use Rattle.ats_reader.specs.Asked.{IsReadFault, IsAsked, IsAskedFault};
 ghost use Rattle.ats_reader.specs.Both.{AreDocuments, IsBothFault};
+ghost use Rattle.ats_reader.specs.Catalog.{IsCatalogFault, AreRoots, IsRootFault};
 ghost use Rattle.ats_reader.specs.Growth.{IsGrowthFault, IsGrown};
 ghost use Rattle.ats_reader.specs.Query.{IsQueryFault};
 ghost use Rattle.ats_reader.specs.Text.{IsTextFault, IsTextAt};
 
 use crate::fault::Fault;
 use ats_bound::{Picks, Work};
+use ats_catalog::{CatalogFault, CatalogRows, verify_catalog};
 use ats_client::{VerifyFault, verify};
 use ats_conjunction::{both_documents, check_both};
 use ats_consistency::{Grown, GrowthView, check_growth};
@@ -21,6 +24,7 @@ use ats_impact::{Rows, Top};
 use ats_inclusion::{TextView, check_text};
 use ats_proof::ProofView;
 use ats_refusal::Rejection;
+use ats_shards::MAX_SHARDS;
 use ats_terms::Query;
 use std::alloc::Global;
 use std::str;
@@ -33,6 +37,24 @@ const TEXT_AT: u64 = 114;
 pub(crate) struct TextAt {
     pub(crate) first: u64,
     pub(crate) size: u64,
+}
+
+/// The query of a text, and a number of rows that there is room for.
+fn asked_for(alloc: Global, text: &[u8], r: u32, room: usize) -> Result<(Query, Top), Fault>
+    ensures query { IfOk result (λ asked. IsQueryOf text.now asked.0 × (asked.1 ≡ r)) }
+    ensures asked { OnOk result (IsAsked text.now r room) }
+    ensures fault { IfErr result (IsAskedFault text.now r room) }
+{
+    let Ok(text) = str::from_utf8(text) else {
+        return Err(Fault::NoText);
+    };
+    let Ok(top) = Top::new(r) else {
+        return Err(Fault::RowsOut { r });
+    };
+    if room < r as usize {
+        return Err(Fault::FewRows { room });
+    }
+    Ok((Query::read(alloc, text)?, top))
 }
 
 /// The rows of bytes that are accepted under the root for the text of a query.
@@ -50,22 +72,50 @@ pub(crate) fn rows_for(
     ensures few { IfOk result (λ rows. length rows ≤ room) }
     ensures fault { IfErr result (IsFault root.now text.now r proof.now room) }
 {
-    let Ok(text) = str::from_utf8(text) else {
-        return Err(Fault::NoText);
-    };
-    let Ok(top) = Top::new(r) else {
-        return Err(Fault::RowsOut { r });
-    };
-    if room < r as usize {
-        return Err(Fault::FewRows { room });
-    }
-    let query = Query::read(alloc, text)?;
+    let (query, top) = asked_for(alloc, text, r, room)?;
     match verify::<Sha>(alloc, proof, root, &query, top) {
         Ok(rows) => Ok(rows),
         Err(VerifyFault::Rejected(Rejection::Shape(fault))) => Err(Fault::BadShape(fault)),
         Err(VerifyFault::Rejected(Rejection::Check(refusal))) => Err(Fault::Refused(refusal)),
         Err(VerifyFault::OutOfMemory) => Err(Fault::OutOfMemory),
     }
+}
+
+/// The rows of bytes that are accepted under the root of a catalog for the text of a query.
+pub(crate) fn catalog_rows_for(
+    alloc: Global,
+    proof: &[u8],
+    root: &[u8; 32],
+    text: &[u8],
+    r: u32,
+    room: usize,
+) -> Result<CatalogRows, Fault>
+    ensures rows { IfOk result (λ held. (query : List (List ℕ × ℕ)) × IsQueryOf text.now query
+        × AreCatalogRows sha256 root.now query r proof.now held.rows) }
+    ensures asked { OnOk result (IsAsked text.now r room) }
+    ensures few { IfOk result (λ held. length held.rows ≤ room) }
+    ensures fault { IfErr result (IsCatalogFault root.now text.now r proof.now room) }
+{
+    let (query, top) = asked_for(alloc, text, r, room)?;
+    match verify_catalog::<Sha>(alloc, proof, root, &query, top) {
+        Ok(rows) => Ok(rows),
+        Err(CatalogFault::Shape(fault)) => Err(Fault::BadShape(fault)),
+        Err(CatalogFault::Refused(refusal)) => Err(Fault::CatalogRefused(refusal)),
+        Err(CatalogFault::OutOfMemory) => Err(Fault::OutOfMemory),
+    }
+}
+
+/// The roots of shards that bytes are, one after another.
+pub(crate) fn roots_in(bytes: &[u8]) -> Result<&[[u8; 32]], Fault>
+    ensures roots { IfOk result (λ roots. AreRoots bytes.now roots.now) }
+    ensures fault { IfErr result (IsRootFault bytes.now) }
+{
+    let size = bytes.len();
+    if size % 32 != 0 || size < 32 || size > 32 * MAX_SHARDS as usize {
+        return Err(Fault::RootsOut { bytes: size });
+    }
+    let (roots, _) = bytes.as_chunks::<32>();
+    Ok(roots)
 }
 
 /// The query of a text.

@@ -4,16 +4,25 @@ ghost use Rattle.std.specs.Prelude.{◌≡◌, ◌≢◌, ◌⊎◌, ◌<◌, �
 ghost use Rattle.ats_reader.specs.declared.fault.Fault.{Fault};
 ghost use Rattle.ats_reader.specs.Answer.{IsAnswer, IsFault};
 ghost use Rattle.ats_reader.specs.Both.{IsBothAnswer, IsBothFault};
+ghost use Rattle.ats_reader.specs.Catalog.{IsCatalogAnswer, IsCatalogFault, IsRootAnswer, IsRootFault};
 ghost use Rattle.ats_reader.specs.Growth.{IsGrowthAnswer, IsGrowthFault};
 ghost use Rattle.ats_reader.specs.Lines.{line_of};
 ghost use Rattle.ats_reader.specs.Query.{IsQueryAnswer, IsQueryFault};
 ghost use Rattle.ats_reader.specs.Text.{IsTextAnswer, IsTextFault};
-ghost use Rattle.ats_reader.specs.Verdicts.{shown_row, shown_term, verdict_of};
+ghost use Rattle.ats_reader.specs.Verdicts.{shown_row, shown_catalog_row, shown_term, verdict_of};
 
-use crate::answers::{documents_for, growth_for, rows_for, terms_for, text_for};
+use crate::answers::{
+    catalog_rows_for, documents_for, growth_for, roots_in, rows_for, terms_for, text_for,
+};
 use crate::lines::line;
-use crate::shown::{ShownRow, ShownTerm, Verdict, accepted, of_fault, shown_row, shown_term};
+use crate::shown::{
+    ShownCatalogRow, ShownRow, ShownTerm, Verdict, accepted, of_fault, shown_catalog_row,
+    shown_row, shown_term,
+};
+use ats_catalog::CatalogRows;
+use ats_hash::{Sha, Steps};
 use ats_impact::Rows;
+use ats_shards::{catalog_root, roots_bind_catalogs};
 use ats_terms::Query;
 use std::alloc::Global;
 use unicode_segmentation::UNICODE_VERSION;
@@ -29,6 +38,17 @@ fn show_rows(rows: &Rows, room: &mut [ShownRow])
 {
     for i in 0..rows.len() {
         room[i] = shown_row(rows.get(i));
+    }
+}
+
+// Puts the rows of a catalog's answer at the front of the room for them.
+fn show_catalog_rows(rows: &CatalogRows, room: &mut [ShownCatalogRow])
+    requires { length rows.now.rows ≤ length room.old }
+    ensures shown { take (length rows.now.rows) room.new ≡ map shown_catalog_row rows.now.rows }
+    ensures rest { drop (length rows.now.rows) room.new ≡ drop (length rows.now.rows) room.old }
+{
+    for i in 0..rows.len() {
+        room[i as usize] = shown_catalog_row(rows.get(i));
     }
 }
 
@@ -91,6 +111,56 @@ pub extern "C" fn ats_both(
         Ok(shown) => {
             docs[..shown.len()].copy_from_slice(shown.as_slice());
             accepted(shown.len(), 0, 0)
+        }
+        Err(fault) => of_fault(fault),
+    };
+}
+
+/// Checks the bytes of a catalog's proof under the root of the catalog, for a query and the `r` best documents of all
+/// shards. `rows` needs room for `r` rows, as for [`ats_check`].
+#[unsafe(no_mangle)]
+pub extern "C" fn ats_catalog(
+    alloc: Global,
+    proof: &[u8],
+    root: &[u8; 32],
+    query: &[u8],
+    r: u32,
+    rows: &mut [ShownCatalogRow],
+    verdict: &mut Verdict,
+)
+    ensures accepted { verdict.new.status ≡ 0
+        → IsCatalogAnswer root.now query.now r proof.now rows.old rows.new verdict.new }
+    ensures fault { verdict.new.status ≢ 0 → (fault : Fault)
+        × IsCatalogFault root.now query.now r proof.now (length rows.old) fault × (verdict.new ≡ verdict_of fault) }
+    ensures unchanged { verdict.new.status ≢ 0 → rows.new ≡ rows.old }
+{
+    *verdict = match catalog_rows_for(alloc, proof, root, query, r, rows.len()) {
+        Ok(answer) => {
+            show_catalog_rows(&answer, rows);
+            accepted(answer.len() as usize, 0, 0)
+        }
+        Err(fault) => of_fault(fault),
+    };
+}
+
+/// Computes the root of the catalog whose shards have these roots of 32 bytes, one after another, shard 0 first.
+#[unsafe(no_mangle)]
+pub extern "C" fn ats_catalog_root(
+    alloc: Global,
+    roots: &[u8],
+    root: &mut [u8; 32],
+    verdict: &mut Verdict,
+)
+    ensures accepted { verdict.new.status ≡ 0 → IsRootAnswer roots.now root.new verdict.new }
+    ensures fault { verdict.new.status ≢ 0 → (fault : Fault)
+        × IsRootFault roots.now fault × (verdict.new ≡ verdict_of fault) }
+    ensures unchanged { verdict.new.status ≢ 0 → root.new ≡ root.old }
+{
+    roots_bind_catalogs::<Sha>();
+    *verdict = match roots_in(roots) {
+        Ok(shards) => {
+            *root = catalog_root::<Sha>(shards, &mut Steps::new(alloc));
+            accepted(shards.len(), 0, 0)
         }
         Err(fault) => of_fault(fault),
     };

@@ -4,7 +4,7 @@ ghost use Rattle.std.specs.Prelude.{◌≡◌};
 ghost use Rattle.ats_reader.specs.declared.fault.Fault.TheVariants.{NoQuery, BadShape, BothRefused, OutOfMemory};
 
 use ats_grammar::ShapeFault;
-use ats_refusal::{BothRefusal, GrowthRefusal, Refusal, TextRefusal};
+use ats_refusal::{BothRefusal, CatalogRefusal, GrowthRefusal, Refusal, TextRefusal};
 use ats_terms::QueryFault;
 
 /// Why a call shows nothing: the first of those that it can come to. Memory may run out at any time.
@@ -32,6 +32,10 @@ pub(crate) enum Fault {
     GrowthRefused(GrowthRefusal),
     /// There is room for fewer terms than the query has.
     FewTerms { room: usize, terms: usize },
+    /// The proof of a catalog's answer is refused.
+    CatalogRefused(CatalogRefusal),
+    /// The bytes are not the roots of 1 to 4,096 shards.
+    RootsOut { bytes: usize },
     OutOfMemory,
 }
 

@@ -1,13 +1,14 @@
 //! The line of a verdict.
 
-ghost use Rattle.std.specs.Prelude.{◌≡◌, IfOk, string_bytes};
-ghost use Rattle.ats_reader.specs.Lines.{shape_of, rule_words, refused_words, other_words, line_of};
+ghost use Rattle.std.specs.Prelude.{◌≡◌, ◌<◌, ◌^◌, true, IfOk, string_bytes};
+ghost use Rattle.ats_reader.specs.Lines.{shape_of, refusal_of, rule_words, are_small, rejection_of, refused_words, shard_words, words_of, other_words, line_of};
 
-use crate::shown::Verdict;
+use crate::shown::{SHARD, Verdict};
 use ats_grammar::{ShapeFault, ShapeKind};
 use ats_refusal::{
-    BothRefusal, GrowthRefusal, Phrase, Refusal, Rejection, TextRefusal, both_refusal_words,
-    growth_refusal_words, refusal_words, rejection_words, text_refusal_words,
+    BothRefusal, CatalogRefusal, GrowthRefusal, Phrase, Refusal, Rejection, TextRefusal,
+    both_refusal_words, catalog_refusal_words, growth_refusal_words, refusal_words,
+    rejection_words, text_refusal_words,
 };
 use std::alloc::{AllocError, Global};
 
@@ -28,32 +29,43 @@ fn shape_of(reason: u32) -> Option<ShapeKind>
     }
 }
 
-// The words of a rule that does not hold.
+// The rule that a proof breaks before its answer is settled.
+fn refusal_of(reason: u32, first: u32, second: u32) -> Option<Refusal>
+    ensures { result ≡ refusal_of reason first second }
+{
+    let (term, entry) = (first, second);
+    let refusal = match reason {
+        16 => Refusal::OtherRoot,
+        17 => Refusal::SlotCount { shown: first },
+        18 => Refusal::DictMisfit,
+        19 => Refusal::DictRoot,
+        20 => Refusal::SlotWrong { term },
+        21 => Refusal::IndexOut { term, entry },
+        22 => Refusal::Repeated { term, entry },
+        23 => Refusal::ListMisfit { term },
+        24 => Refusal::ListRoot { term },
+        25 => Refusal::Unmet { index: first },
+        26 => Refusal::DocsMisfit,
+        27 => Refusal::DocsRoot,
+        28 => Refusal::TermsMisfit { doc: first },
+        29 => Refusal::TermsRoot { doc: first },
+        30 => Refusal::TermSlot {
+            doc: first,
+            term: second,
+        },
+        31 => Refusal::AnswerOut { row: first },
+        32 => Refusal::AnswerRepeated { row: first },
+        _ => return None,
+    };
+    Some(refusal)
+}
+
+// The words of any other rule that does not hold.
 fn rule_words(reason: u32, first: u32, second: u32) -> Option<Phrase>
     ensures { result ≡ rule_words reason first second }
 {
-    let (term, entry, old, new) = (first, second, first, second);
+    let (old, new) = (first, second);
     let words = match reason {
-        16 => refusal_words(Refusal::OtherRoot),
-        17 => refusal_words(Refusal::SlotCount { shown: first }),
-        18 => refusal_words(Refusal::DictMisfit),
-        19 => refusal_words(Refusal::DictRoot),
-        20 => refusal_words(Refusal::SlotWrong { term }),
-        21 => refusal_words(Refusal::IndexOut { term, entry }),
-        22 => refusal_words(Refusal::Repeated { term, entry }),
-        23 => refusal_words(Refusal::ListMisfit { term }),
-        24 => refusal_words(Refusal::ListRoot { term }),
-        25 => refusal_words(Refusal::Unmet { index: first }),
-        26 => refusal_words(Refusal::DocsMisfit),
-        27 => refusal_words(Refusal::DocsRoot),
-        28 => refusal_words(Refusal::TermsMisfit { doc: first }),
-        29 => refusal_words(Refusal::TermsRoot { doc: first }),
-        30 => refusal_words(Refusal::TermSlot {
-            doc: first,
-            term: second,
-        }),
-        31 => refusal_words(Refusal::AnswerOut { row: first }),
-        32 => refusal_words(Refusal::AnswerRepeated { row: first }),
         33 => refusal_words(Refusal::NotSettled),
         35 => both_refusal_words(BothRefusal::NotTra),
         36 => both_refusal_words(BothRefusal::AnswerShown { rows: first }),
@@ -72,17 +84,64 @@ fn rule_words(reason: u32, first: u32, second: u32) -> Option<Phrase>
     Some(words)
 }
 
-// The words after the first one of what is refused.
+// Whether both may be numbers of a rule.
+fn are_small(first: u64, second: u64) -> bool
+    ensures value { result ≡ are_small first second }
+    ensures small { result ≡ true → (first < 2 ^ 32) × (second < 2 ^ 32) }
+{
+    first < 1 << 32 && second < 1 << 32
+}
+
+// What is wrong with a proof before its answer is settled.
+fn rejection_of(reason: u32, first: u64, second: u64) -> Option<Rejection>
+    ensures { result ≡ rejection_of reason first second }
+{
+    if let Some(kind) = shape_of(reason) {
+        return Some(Rejection::Shape(ShapeFault { at: first, kind }));
+    }
+    if !are_small(first, second) {
+        return None;
+    }
+    let refusal = refusal_of(reason, first as u32, second as u32)?;
+    Some(Rejection::Check(refusal))
+}
+
+// The words of a refusal after the first one.
 fn refused_words(reason: u32, first: u64, second: u64) -> Option<Phrase>
     ensures { result ≡ refused_words reason first second }
 {
-    if let Some(kind) = shape_of(reason) {
-        return Some(rejection_words(Rejection::Shape(ShapeFault { at: first, kind })));
+    if let Some(rejection) = rejection_of(reason, first, second) {
+        return Some(rejection_words(rejection));
     }
-    if first < 1 << 32 && second < 1 << 32 {
+    if are_small(first, second) {
         return rule_words(reason, first as u32, second as u32);
     }
     None
+}
+
+// The same if the proof of a shard is refused.
+fn shard_words(shard: u64, reason: u32, first: u64, second: u64) -> Option<Phrase>
+    ensures { result ≡ shard_words shard reason first second }
+{
+    if shard >= 1 << 32 {
+        return None;
+    }
+    let rejection = rejection_of(reason, first, second)?;
+    Some(catalog_refusal_words(CatalogRefusal::Shard {
+        shard: shard as u32,
+        rejection,
+    }))
+}
+
+// The words of a refusal after the first one. From 64 on a reason is one of a shard's proof.
+fn words_of(verdict: &Verdict) -> Option<Phrase>
+    ensures { result ≡ words_of verdict.now }
+{
+    let (reason, first, second) = (verdict.reason, verdict.first, verdict.second);
+    if reason < SHARD {
+        return refused_words(reason, first, second);
+    }
+    shard_words(verdict.count, reason - SHARD, first, second)
 }
 
 // The line of any other reason. It is empty for what is accepted, and for a reason that is none.
@@ -100,6 +159,7 @@ fn other_words(reason: u32, first: u64) -> Phrase
         34 => Phrase::plain("memory"),
         38 => Phrase::around("usage: room for ", first, " documents"),
         48 => Phrase::around("usage: room for ", first, " terms"),
+        49 => Phrase::around("input: roots of ", first, " bytes"),
         _ => Phrase::plain(""),
     }
 }
@@ -108,7 +168,7 @@ fn other_words(reason: u32, first: u64) -> Phrase
 pub(crate) fn line(alloc: Global, verdict: &Verdict) -> Result<String, AllocError>
     ensures { IfOk result (λ line. string_bytes line ≡ line_of verdict.now) }
 {
-    match refused_words(verdict.reason, verdict.first, verdict.second) {
+    match words_of(verdict) {
         Some(words) => {
             let words = words.text(alloc)?;
             format!(in alloc; "refused: {words}")

@@ -1,18 +1,32 @@
 //! What a caller is shown, as numbers.
 
-ghost use Rattle.std.specs.Prelude.{◌≡◌, ◌<◌, ℕ, List, length, slice_index_or};
-ghost use Rattle.ats_reader.specs.Verdicts.{shown_row, shown_term, accepted, refused, verdict_of_query, verdict_of_shape, verdict_of_refusal, verdict_of_both, verdict_of_text, verdict_of_growth, verdict_of};
+ghost use Rattle.std.specs.Prelude.{◌≡◌, ◌<◌, ◌≤◌, ℕ, List, length, slice_index_or};
+ghost use Rattle.ats_reader.specs.Verdicts.{shown_row, shown_catalog_row, shown_term, accepted, refused, of_shard, verdict_of_query, verdict_of_shape, verdict_of_refusal, verdict_of_rejection, verdict_of_catalog, verdict_of_both, verdict_of_text, verdict_of_growth, verdict_of};
 
 use crate::fault::Fault;
+use ats_catalog::CatalogRow;
 use ats_grammar::{ShapeFault, ShapeKind};
 use ats_impact::Row;
-use ats_refusal::{BothRefusal, GrowthRefusal, Refusal, TextRefusal};
+use ats_refusal::{BothRefusal, CatalogRefusal, GrowthRefusal, Refusal, Rejection, TextRefusal};
 use ats_terms::{Query, QueryFault};
+
+/// What is added to the reason for which a proof is refused if it is that of a shard.
+pub(crate) const SHARD: u32 = 64;
 
 /// A document of an answer, counted from 0, with bounds of its score.
 #[repr(C)]
 #[derive(Clone, Copy)]
 pub struct ShownRow {
+    pub doc: u64,
+    pub lower: u64,
+    pub upper: u64,
+}
+
+/// A document of a catalog's answer: its shard, and its number there, both counted from 0, with bounds of its score.
+#[repr(C)]
+#[derive(Clone, Copy)]
+pub struct ShownCatalogRow {
+    pub shard: u64,
     pub doc: u64,
     pub lower: u64,
     pub upper: u64,
@@ -34,12 +48,12 @@ pub struct ShownTerm {
 #[repr(C)]
 #[derive(Clone, Copy)]
 pub struct Verdict {
-    /// 0: accepted; 1: refused; 2: the query is not UTF-8, or there is too little room; 4: the query or the number of
-    /// rows is out of its limits; 6: out of memory.
+    /// 0: accepted; 1: refused; 2: the query is not UTF-8, or there is too little room; 4: the query, the number of rows
+    /// or that of roots is out of its limits; 6: out of memory.
     pub status: u32,
-    /// Which fault it is; 0: none.
+    /// Which fault it is; 0: none. From 64 on it is one of a shard's proof.
     pub reason: u32,
-    /// How many rows, documents or terms are shown.
+    /// How many rows, documents, terms or shards there are; or the number of the shard, if its proof is refused.
     pub count: u64,
     /// What an accepted text or growth says first, the first number of the line, or 0.
     pub first: u64,
@@ -51,6 +65,17 @@ pub(crate) fn shown_row(row: Row) -> ShownRow
     ensures { result ≡ shown_row row }
 {
     ShownRow {
+        doc: row.doc as u64,
+        lower: row.lower,
+        upper: row.upper,
+    }
+}
+
+pub(crate) fn shown_catalog_row(row: CatalogRow) -> ShownCatalogRow
+    ensures { result ≡ shown_catalog_row row }
+{
+    ShownCatalogRow {
+        shard: row.shard as u64,
         doc: row.doc as u64,
         lower: row.lower,
         upper: row.upper,
@@ -111,7 +136,8 @@ fn of_query(fault: QueryFault) -> Verdict
 }
 
 fn of_shape(kind: ShapeKind, at: u64) -> Verdict
-    ensures { result ≡ verdict_of_shape kind at }
+    ensures value { result ≡ verdict_of_shape kind at }
+    ensures low { result.reason ≤ 33 }
 {
     match kind {
         ShapeKind::Long => refused(1, 8, at, 0),
@@ -126,7 +152,8 @@ fn of_shape(kind: ShapeKind, at: u64) -> Verdict
 }
 
 fn of_refusal(refusal: Refusal) -> Verdict
-    ensures { result ≡ verdict_of_refusal refusal }
+    ensures value { result ≡ verdict_of_refusal refusal }
+    ensures low { result.reason ≤ 33 }
 {
     match refusal {
         Refusal::OtherRoot => refused(1, 16, 0, 0),
@@ -147,6 +174,38 @@ fn of_refusal(refusal: Refusal) -> Verdict
         Refusal::AnswerOut { row } => refused(1, 31, row as u64, 0),
         Refusal::AnswerRepeated { row } => refused(1, 32, row as u64, 0),
         Refusal::NotSettled => refused(1, 33, 0, 0),
+    }
+}
+
+fn of_rejection(rejection: Rejection) -> Verdict
+    ensures value { result ≡ verdict_of_rejection rejection }
+    ensures low { result.reason ≤ 33 }
+{
+    match rejection {
+        Rejection::Shape(ShapeFault { at, kind }) => of_shape(kind, at),
+        Rejection::Check(refusal) => of_refusal(refusal),
+    }
+}
+
+// The verdict of a proof as that of a shard.
+fn of_shard(shard: u32, verdict: Verdict) -> Verdict
+    requires { verdict.reason ≤ 33 }
+    ensures { result ≡ of_shard shard verdict }
+{
+    Verdict {
+        reason: verdict.reason + SHARD,
+        count: shard as u64,
+        ..verdict
+    }
+}
+
+fn of_catalog(refusal: CatalogRefusal) -> Verdict
+    ensures { result ≡ verdict_of_catalog refusal }
+{
+    match refusal {
+        CatalogRefusal::OtherRoot => refused(1, 16, 0, 0),
+        CatalogRefusal::Shard { shard, rejection } => of_shard(shard, of_rejection(rejection)),
+        CatalogRefusal::NotSettled => refused(1, 33, 0, 0),
     }
 }
 
@@ -201,6 +260,8 @@ pub(crate) fn of_fault(fault: Fault) -> Verdict
         Fault::TextRefused(refusal) => of_text(refusal),
         Fault::GrowthRefused(refusal) => of_growth(refusal),
         Fault::FewTerms { room, terms } => refused(2, 48, room as u64, terms as u64),
+        Fault::CatalogRefused(refusal) => of_catalog(refusal),
+        Fault::RootsOut { bytes } => refused(4, 49, bytes as u64, 0),
         Fault::OutOfMemory => refused(6, 34, 0, 0),
     }
 }

@@ -1,0 +1,2 @@
+mod FewRows
+mod Chunks
