@@ -10,6 +10,7 @@ import (
 	"fmt"
 	"os"
 	"strconv"
+	"strings"
 	"unsafe"
 )
 
@@ -35,9 +36,26 @@ func root(digits string) *C.uint8_t {
 
 func number(word string) C.uint32_t { return C.uint32_t(must(strconv.ParseUint(word, 10, 32))) }
 
+// The roots that the lines of a list spell, one after another; or the number of its first bad line.
+func roots(list string) (all []byte, bad int) {
+	lines := strings.Split(strings.TrimSuffix(list, "\n"), "\n")
+	if len(lines) > 4096 {
+		return nil, 4097
+	}
+	for i, line := range lines {
+		at, fault := hex.DecodeString(line)
+		if fault != nil || hex.EncodeToString(at) != line || len(at) != 32 {
+			return nil, i + 1
+		}
+		all = append(all, at...)
+	}
+	return all, 0
+}
+
 func main() {
 	words, verdict := os.Args[1:], new(C.struct_ats_verdict)
 	rows, docs, terms := make([]C.struct_ats_row, 1000), make([]C.uint32_t, 65536), make([]C.struct_ats_term, 32)
+	merged, computed := make([]C.struct_ats_catalog_row, 1000), make([]byte, 32)
 	query, file := words[len(words)-1], []byte{}
 	if words[0] != "query" {
 		query, file = words[len(words)-2], must(os.ReadFile(words[len(words)-1]))
@@ -59,6 +77,22 @@ func main() {
 		C.ats_both(at, size, root(words[1]), text, length, &docs[0], 65536, verdict)
 		for _, doc := range docs[:verdict.count] {
 			fmt.Println(doc)
+		}
+	case "catalog":
+		C.ats_catalog(at, size, root(words[1]), text, length, number(words[2]), &merged[0], 1000, verdict)
+		for i := 0; verdict.status == 0 && i < int(verdict.count); i++ {
+			fmt.Println(i+1, merged[i].shard, merged[i].doc, merged[i].lower, merged[i].upper)
+		}
+	case "catalog-root":
+		all, bad := roots(string(file))
+		if bad != 0 {
+			fmt.Println("input: list line", bad)
+			os.Exit(4)
+		}
+		at, size = bytes(all)
+		C.ats_catalog_root(at, size, (*C.uint8_t)(unsafe.Pointer(&computed[0])), verdict)
+		if verdict.status == 0 {
+			fmt.Println(hex.EncodeToString(computed))
 		}
 	case "fetch":
 		C.ats_text(at, size, root(words[1]), number(words[2]), verdict)

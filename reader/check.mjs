@@ -8,12 +8,23 @@ const [module, command, ...words] = process.argv.slice(2);
 const it = await checker(await compile(readFileSync(module)));
 const file = () => new Uint8Array(readFileSync(words.at(-1)));
 
+// The roots that the lines of a list spell. A bad one ends the program.
+function roots() {
+  const lines = new TextDecoder('latin1').decode(file()).replace(/\n$/, '').split('\n');
+  const bad = lines.length > 4096 ? 4096 : lines.findIndex(line => !/^[0-9a-f]{64}$/.test(line));
+  if (bad === -1) return lines.map(bytesOf);
+  console.log(`input: list line ${bad + 1}`);
+  return process.exit(4);
+}
+
 const got = {
   verify: () => it.check(file(), bytesOf(words[0]), words[2], Number(words[1])),
   both: () => it.both(file(), bytesOf(words[0]), words[1]),
   fetch: () => it.text(file(), bytesOf(words[0]), Number(words[1])),
   growth: () => it.growth(file(), bytesOf(words[0]), bytesOf(words[1])),
   query: () => it.query(words[0]),
+  catalog: () => it.catalog(file(), bytesOf(words[0]), words[2], Number(words[1])),
+  'catalog-root': () => it.catalogRoot(roots()),
 }[command]();
 
 const text = lines => new TextEncoder().encode(lines.map(line => `${line}\n`).join(''));

@@ -1,5 +1,5 @@
 #!/usr/bin/env python3
-"""Builds the callers, and plays all vectors of the four checks and of words with each. Prints how many passed and failed, and
+"""Builds the callers, and plays all vectors of the checks and of words with each. Prints how many passed and failed, and
 which callers were skipped since their toolchain is missing.
 
 python3 reader/play.py              proves the static library by ./prove, builds it and plays
@@ -20,7 +20,7 @@ TOP = os.path.dirname(HERE)
 CRATE = os.path.join(TOP, "crates", "ats_reader")
 sys.dont_write_bytecode = True
 sys.path.insert(0, HERE)
-from ats_reader import CTerm, CRow, Fault, Reader, Verdict, printed
+from ats_reader import CCatalogRow, CRow, CTerm, Fault, Reader, Verdict, printed
 
 
 def proved():
@@ -127,6 +127,18 @@ def lines(it):
     return "".join(line + "\n" for line in it["lines"]).encode("ascii")
 
 
+def listed(words):
+    return "".join(word + "\n" for word in words).encode("ascii")
+
+
+def bad_lists():
+    """Lists of roots in which a line is bad, and the line that is printed for it."""
+    root = "5e" * 32
+    for number, bad in [(1, b""), (1, b"\n"), (2, listed([root, root.upper()])), (2, listed([root]) + b"\r"),
+                        (2, listed([root, ""])), (4097, listed(["x"] * 4097))]:
+        yield "lists", ["catalog-root"], bad, 4, f"input: list line {number}\n".encode("ascii")
+
+
 def verified(it, proof):
     return ["verify", it["root"], str(it["r"]), it["query"]], proof, it["status"], lines(it)
 
@@ -147,6 +159,11 @@ def cases():
         yield "large", *verified(it, joined(it["proof"]))
     for it in vector("both"):
         yield "both", ["both", it["root"], it["query"]], joined(it["proof"]), it["status"], lines(it)
+    for it in vector("catalogs"):
+        yield "catalogs", ["catalog", it["root"], str(it["r"]), it["query"]], bytes.fromhex(it["proof"]), it["status"], lines(it)
+        if "roots" in it:
+            yield "catalogs", ["catalog-root"], listed(it["roots"]), 0, listed([it["root"]])
+    yield from bad_lists()
     for it in vector("texts"):
         text = joined(it["text"]) + b"\n" if it["status"] == 0 else lines(it)
         yield "texts", ["fetch", it["root"], str(it["document"])], joined(it["file"]), it["status"], text
@@ -157,18 +174,17 @@ def cases():
             yield "words", ["query", it["text"]], None, 0, "".join(f"{term} {count}\n" for term, count in it["terms"]).encode()
 
 
-def by_program(program, folder, number, words, file):
+def by_program(program, folder, words, file):
     """What a caller prints and how it ends."""
-    if file is not None:
-        name = os.path.join(folder, f"file-{number % 64}-{program[0].rpartition('/')[2]}")
-        with open(name, "wb") as to:
-            to.write(file)
-        words = [*words, name]
-    ran = subprocess.run([*program, *(word.encode() for word in words)], capture_output=True, timeout=120)
+    with tempfile.NamedTemporaryFile(dir=folder) as to:
+        to.write(file or b"")
+        to.flush()
+        words = words if file is None else [*words, to.name]
+        ran = subprocess.run([*program, *(word.encode() for word in words)], capture_output=True, timeout=120)
     return ran.returncode, ran.stdout
 
 
-def by_python(reader, folder, number, words, file):
+def by_python(reader, folder, words, file):
     name = os.path.join(folder, "file-python")
     with open(name, "wb") as to:
         to.write(file or b"")
@@ -184,6 +200,8 @@ def rooms(shared):
     """Too little room, what is left of it, and a query that is not UTF-8."""
     calls, size = ctypes.CDLL(shared), ctypes.c_size_t
     it, all_of = vector("proofs")["two terms, three rows by tnra"], vector("both")[0]
+    merged = next(it for it in vector("catalogs") if len(it.get("roots", [])) == 2 and len(it["lines"]) == it["r"] == 3)
+    whole, asked = bytes.fromhex(merged["proof"]), merged["query"].encode()
     proof, root, query = bytes.fromhex(it["proof"]), bytes.fromhex(it["root"]), it["query"].encode()
     shown = [tuple(map(int, line.split()[1:])) for line in it["lines"]]
 
@@ -194,6 +212,17 @@ def rooms(shared):
         rows, verdict = (CRow * 6)(*[(7, 8, 9)] * 6), Verdict()
         calls.ats_check(proof, size(len(proof)), root, query, size(len(query)), r, rows, size(room), ctypes.byref(verdict))
         return told(verdict), [(row.doc, row.lower, row.upper) for row in rows]
+
+    def catalog(query, r, room):
+        rows, verdict = (CCatalogRow * 6)(*[(7, 8, 9, 10)] * 6), Verdict()
+        calls.ats_catalog(whole, size(len(whole)), bytes.fromhex(merged["root"]), query, size(len(query)), r, rows, size(room),
+                          ctypes.byref(verdict))
+        return told(verdict), [(row.shard, row.doc, row.lower, row.upper) for row in rows]
+
+    def root_of(roots):
+        root, verdict = ctypes.create_string_buffer(b"." * 32, 32), Verdict()
+        calls.ats_catalog_root(roots, size(len(roots)), root, ctypes.byref(verdict))
+        return told(verdict), root.raw
 
     def both(room):
         docs, verdict, bytes_of = (ctypes.c_uint32 * 6)(*[7] * 6), Verdict(), joined(all_of["proof"])
@@ -221,6 +250,17 @@ def rooms(shared):
     yield check(b"red \xff", 3, 6) == ((2, 1, 0, 0, 0), untouched)
     yield check(b"...", 3, 6) == ((4, 5, 0, 0, 0), untouched)
     yield check(query, 2, 6) == ((1, 33, 0, 0, 0), untouched)
+    best, left = [tuple(map(int, line.split()[1:])) for line in merged["lines"]], [(7, 8, 9, 10)] * 6
+    yield catalog(asked, 3, 6) == ((0, 0, 3, 0, 0), best + left[3:])
+    yield catalog(asked, 3, 2) == ((2, 3, 0, 2, 0), left)
+    yield catalog(asked, 1001, 6) == ((4, 2, 0, 1001, 0), left)
+    yield catalog(b"red \xff", 3, 6) == ((2, 1, 0, 0, 0), left)
+    yield catalog(asked, 2, 6) == ((1, 33, 0, 0, 0), left)
+    yield catalog(b"red fox", 3, 6) == ((1, 84, 0, 0, 0), left)
+    shards = b"".join(map(bytes.fromhex, merged["roots"]))
+    yield root_of(shards) == ((0, 0, 2, 0, 0), bytes.fromhex(merged["root"]))
+    for wrong in (b"", shards[1:], bytes(32 * 4097)):
+        yield root_of(wrong) == ((4, 49, 0, len(wrong), 0), b"." * 32)
     found = list(map(int, all_of["lines"]))
     yield both(6) == ((0, 0, len(found), 0, 0), found + [7] * (6 - len(found)))
     yield both(len(found)) == ((0, 0, len(found), 0, 0), found + [7] * (6 - len(found)))
@@ -236,19 +276,21 @@ def rooms(shared):
     yield line((2, 38, 0, 2, 3), 30) == (0, 27, b"usage: room for 2 documents" + b"." * 3)
     yield line((2, 1, 0, 0, 0), 30) == (0, 25, b"usage: query is not UTF-8" + b"." * 5)
     yield line((6, 34, 0, 0, 0), 30) == (0, 6, b"memory" + b"." * 24)
+    yield line((1, 94, 1, 12, 3), 30) == (2, 31, b"." * 30)
+    yield line((1, 73, 4, 12, 0), 30) == (0, 29, b"refused: shard 4 shape cut 12.")
     yield line((0, 0, 3, 0, 0), 30) == (0, 0, b"." * 30)
-    yield line((1, 49, 0, 0, 0), 30) == (0, 0, b"." * 30)
+    yield line((1, 97, 0, 0, 0), 30) == (0, 0, b"." * 30)
+    yield line((1, 80, 2 ** 32, 0, 0), 30) == (0, 0, b"." * 30)
 
 
 def compare(made, folder):
     """Prints how long the library and its portable form take for the longest accepted proof, from start to end."""
-    number, words, file = max(((i, it[1], it[2]) for i, it in enumerate(cases()) if it[0] == "large" and it[3] == 0),
-                              key=lambda it: len(it[2]))
+    words, file = max(((it[1], it[2]) for it in cases() if it[0] == "large" and it[3] == 0), key=lambda it: len(it[1]))
     for name in ("c", "portable"):
         times = []
         for _ in range(5 if name in made else 0):
             start = time.perf_counter()
-            by_program(made[name], folder, number, words, file)
+            by_program(made[name], folder, words, file)
             times.append(time.perf_counter() - start)
         if times:
             print(f"{name}: {min(times) * 1e3:.0f} ms for a proof of {len(file):,} bytes")
@@ -271,7 +313,7 @@ def play(count, name, call, many):
     with concurrent.futures.ThreadPoolExecutor(os.cpu_count() if many else 1) as pool:
         # A word that a program is called with has no byte 0.
         all_cases = [it for it in cases() if not (many and "\0" in "".join(it[1]))]
-        got = pool.map(lambda it: call(it[0], it[1][1], it[1][2]), enumerate(all_cases))
+        got = pool.map(lambda it: call(it[1], it[2]), all_cases)
         for (file, words, _, status, text), found in zip(all_cases, got):
             about = f"{words[-1][:40]!r} {text[:60]} {found[0]} {found[1][:60]}"
             count.see(f"{file} by {name}", found == (status, text), about)
@@ -282,10 +324,10 @@ def main(archive=None):
     with tempfile.TemporaryDirectory() as folder:
         check, shared = build(archive, folder)
         reader = Reader(shared)
-        play(count, "python", lambda number, words, file: by_python(reader, folder, number, words, file), False)
+        play(count, "python", lambda words, file: by_python(reader, folder, words, file), False)
         made = callers(check, folder)
         for name, program in made.items():
-            play(count, name, lambda number, words, file: by_program(program, folder, number, words, file), True)
+            play(count, name, lambda words, file: by_program(program, folder, words, file), True)
         compare(made, folder)
         for i, right in enumerate(rooms(shared)):
             count.see("rooms", right, i)

@@ -1,20 +1,23 @@
 // The glue: passes bytes to page.wasm, whose calls are those of reader/ats_reader.h, and reads the verdict. Not proved.
 // A page and Node share it.
 
+import { hex, joined } from './bytes.mjs';
+
 /**
  * What every call answers.
  * @typedef {object} Verdict
  * @property {number} status 0 accepted; 1 refused; 2 too little room, or a query that is not UTF-8; 4 out of the
- *   limits; 6 out of
- *   memory
+ *   limits; 6 out of memory
  * @property {number} reason 0, or the number of the fault, as reader/ats_reader.h lists them
- * @property {number} count how many rows, documents or terms are shown
+ * @property {number} count how many rows, documents, terms or shards there are; with a reason of 64 or more, the
+ *   number of the shard whose proof is refused, from 0
  * @property {bigint} first
  * @property {bigint} second
  * @property {string} line what the command prints if the status is not 0; else empty
  * @property {number} ms how long the call took
  *
  * @typedef {{ doc: bigint, lower: bigint, upper: bigint }} Row
+ * @typedef {{ shard: bigint, doc: bigint, lower: bigint, upper: bigint }} CatalogRow
  * @typedef {{ term: Uint8Array, weight: number }} Term
  *
  * A root is 32 bytes. A RangeError says that one is not, or that memory ran out: throw the checker away then.
@@ -23,6 +26,11 @@
  *   what `verify` checks. Its rows are best first
  * @property {(proof: Uint8Array, root: Uint8Array, query: string) => Verdict & { docs: number[] }} both
  *   what `both` checks. Its documents rise
+ * @property {(proof: Uint8Array, root: Uint8Array, query: string, r: number) =>
+ *   Verdict & { rows: CatalogRow[] }} catalog
+ *   what `catalog` checks. Its rows are best first
+ * @property {(roots: Uint8Array[]) => Verdict & { root: Uint8Array | undefined }} catalogRoot
+ *   the root of the catalog whose shards have these roots, shard 0 first; undefined unless there are 1 to 4,096
  * @property {(file: Uint8Array, root: Uint8Array, doc: number) => Verdict & { text: Uint8Array | undefined }} text
  *   what `fetch` checks. `text` is a view of the file's own bytes, which may be no UTF-8; undefined unless accepted
  * @property {(file: Uint8Array, oldRoot: Uint8Array, newRoot: Uint8Array) =>
@@ -34,7 +42,7 @@
  *   the version of the calls, and that of Unicode by which words are found
  */
 
-const ROW = 24, TERM = 72, WORD = 64, VERDICT = 32, LINE = 128, ROOT = 32;
+const ROW = 24, CATALOG_ROW = 32, TERM = 72, WORD = 64, VERDICT = 32, LINE = 128, ROOT = 32;
 const MOST_ROWS = 1000, MOST_DOCS = 65536, MOST_TERMS = 32;
 
 /**
@@ -75,10 +83,11 @@ export async function checker(module) {
     return got;
   };
 
-  const rootAt = (put, root) => {
+  const checkedRoot = root => {
     if (root.length !== ROOT) throw new RangeError('a root has 32 bytes');
-    return put(root)[0];
+    return root;
   };
+  const rootAt = (put, root) => put(checkedRoot(root))[0];
   const queryAt = (put, query) => put(new TextEncoder().encode(query));
   // A number that is longer would be cut to another one.
   const number = n => {
@@ -107,15 +116,26 @@ export async function checker(module) {
   const list = (at, count, size, read) =>
     Array.from({ length: count }, (_, i) => read(view(at + BigInt(i * size), size), i));
 
+  // The best rows of a proof, by a call whose rows have a size and are read by `read`.
+  const rowsOf = (call, size, read) => (proof, root, query, r) => lent((put, room) => {
+    // Wanting more rows than the check allows is its own fault to find.
+    const most = Math.min(number(r), MOST_ROWS), rows = room(most * size);
+    const places = [...put(proof), rootAt(put, root), ...queryAt(put, query), r, rows, BigInt(most)];
+    return verdictOf(room, at => call(...places, at), ({ count }) => ({ rows: list(rows, count, size, read) }));
+  });
+  const row = (it, at) => ({
+    doc: it.getBigUint64(at, true), lower: it.getBigUint64(at + 8, true), upper: it.getBigUint64(at + 16, true),
+  });
+
   return {
-    check: (proof, root, query, r) => lent((put, room) => {
-      // Wanting more rows than the check allows is its own fault to find.
-      const most = Math.min(number(r), MOST_ROWS), rows = room(most * ROW);
-      const places = [...put(proof), rootAt(put, root), ...queryAt(put, query), r, rows, BigInt(most)];
-      return verdictOf(room, at => wasm.ats_check(...places, at), ({ count }) => ({
-        rows: list(rows, count, ROW, it => ({
-          doc: it.getBigUint64(0, true), lower: it.getBigUint64(8, true), upper: it.getBigUint64(16, true),
-        })),
+    check: rowsOf(wasm.ats_check, ROW, it => row(it, 0)),
+
+    catalog: rowsOf(wasm.ats_catalog, CATALOG_ROW, it => ({ shard: it.getBigUint64(0, true), ...row(it, 8) })),
+
+    catalogRoot: roots => lent((put, room) => {
+      const root = room(ROOT), places = [...put(joined(roots.map(checkedRoot))), root];
+      return verdictOf(room, at => wasm.ats_catalog_root(...places, at), ({ first }) => ({
+        root: first === undefined ? undefined : bytesAt(root, ROOT).slice(),
       }));
     }),
 
@@ -161,10 +181,12 @@ export async function checker(module) {
 
 /**
  * The lines that the command of a check prints for its verdict; those of `fetch` are the text, and not among them.
- * @param {Verdict & { rows?: Row[], docs?: number[], grown?: { old: number, new: number } }} verdict
+ * @param {Verdict & { rows?: (Row | CatalogRow)[], docs?: number[], grown?: { old: number, new: number },
+ *   root?: Uint8Array }} verdict
  */
-export function linesOf({ status, line, rows = [], docs = [], grown }) {
+export function linesOf({ status, line, rows = [], docs = [], grown, root }) {
   if (status !== 0) return [line];
   if (grown) return [`grown ${grown.old} ${grown.new}`];
-  return [...rows.map(({ doc, lower, upper }, i) => `${i + 1} ${doc} ${lower} ${upper}`), ...docs.map(String)];
+  if (root) return [hex(root)];
+  return [...rows.map((row, i) => [i + 1, ...Object.values(row)].join(' ')), ...docs.map(String)];
 }

@@ -8,8 +8,8 @@
 
 typedef Z_ats_instance_t Module;
 
-/* One byte more than a proof may have, which is longer than any file may be. */
-static const size_t most = ((size_t)1 << 26) + 1;
+/* One byte more than a proof may have, or a catalog's proof, which is longer than any such file may be. */
+static const size_t most = ((size_t)1 << 26) + 1, most_catalog = ((size_t)1 << 28) + 1;
 
 static size_t least(size_t a, size_t b) { return a < b ? a : b; }
 
@@ -58,6 +58,33 @@ void ats_both(const uint8_t *proof, size_t proof_size, const uint8_t *root, cons
     if (p && t && q && s && v) {
         Z_atsZ_ats_both(&module, p, proof_size, t, q, query_size, s, room, v);
         finish(&module, v, verdict, docs, s, sizeof *docs);
+    } else no_memory(verdict);
+    Z_ats_free(&module);
+}
+
+void ats_catalog(const uint8_t *proof, size_t proof_size, const uint8_t *root, const uint8_t *query, size_t query_size,
+                 uint32_t r, struct ats_catalog_row *rows, size_t room, struct ats_verdict *verdict) {
+    Module module;
+    Z_ats_instantiate(&module);
+    proof_size = least(proof_size, most_catalog);
+    room = least(room, 1000);
+    u64 p = put(&module, proof, proof_size), t = put(&module, root, 32), q = put(&module, query, query_size);
+    u64 s = put(&module, rows, room * sizeof *rows), v = put(&module, verdict, sizeof *verdict);
+    if (p && t && q && s && v) {
+        Z_atsZ_ats_catalog(&module, p, proof_size, t, q, query_size, r, s, room, v);
+        finish(&module, v, verdict, rows, s, sizeof *rows);
+    } else no_memory(verdict);
+    Z_ats_free(&module);
+}
+
+void ats_catalog_root(const uint8_t *roots, size_t roots_size, uint8_t *root, struct ats_verdict *verdict) {
+    Module module;
+    Z_ats_instantiate(&module);
+    u64 s = put(&module, roots, roots_size), t = put(&module, root, 32), v = put(&module, verdict, sizeof *verdict);
+    if (s && t && v) {
+        Z_atsZ_ats_catalog_root(&module, s, roots_size, t, v);
+        finish(&module, v, verdict, 0, 0, 0);
+        if (verdict->status == 0) take(&module, root, t, 32);
     } else no_memory(verdict);
     Z_ats_free(&module);
 }

@@ -1,9 +1,9 @@
-// Plays the vectors of the four checks and of words with page.wasm: in a page that web/test serves, or in Node:
+// Plays the vectors of the checks and of words with page.wasm: in a page that web/test serves, or in Node:
 // node web/try/play.mjs web/out
 import { bytesOfHex as bytesOf } from '../bytes.mjs';
 import { checker, compile, linesOf } from '../check.mjs';
 
-const FILES = ['proofs', 'changed', 'made', 'inputs', 'large', 'both', 'texts', 'growths', 'words'];
+const FILES = ['proofs', 'changed', 'made', 'inputs', 'large', 'both', 'catalogs', 'texts', 'growths', 'words'];
 
 function changed(proof, changes) {
   for (const [start, end, digits] of changes) {
@@ -60,6 +60,10 @@ function* cases(it, files) {
   }
   for (const { about, proof, root, query, status, lines } of files.both) {
     yield { file: 'both', about, status, lines, got: it.both(joined(proof), bytesOf(root), query) };
+  }
+  for (const { about, proof, root, roots, query, r, status, lines } of files.catalogs) {
+    yield { file: 'catalogs', about, status, lines, got: it.catalog(bytesOf(proof), bytesOf(root), query, r) };
+    if (roots) yield { file: 'catalogs', about, status: 0, lines: [root], got: it.catalogRoot(roots.map(bytesOf)) };
   }
   for (const { about, file, root, document: doc, status, text, lines } of files.texts) {
     const got = it.text(joined(file), bytesOf(root), doc);
