@@ -1,5 +1,5 @@
 """Tries the scripts for an archive's owner and for readers who follow it: `owner/collect.py` and `announce.py`,
-`reader/follow.py`, `keep.py` and `titles.py`, with the real program and a real web server.
+`reader/follow.py`, `keep.py` and `titles.py`, with the real program and a real web server; and what `owner/demo` takes.
 
 usage: python3 tests/folders.py [PROGRAM]
 
@@ -9,8 +9,12 @@ Ends with what was skipped, because a program is missing or this is root, and wi
 nothing failed.
 """
 
+import contextlib
+import gzip
+import io
 import json
 import os
+import runpy
 import shutil
 import sys
 import tempfile
@@ -20,6 +24,8 @@ from typing import Iterator, NamedTuple, Optional
 import roots
 from tries import HOME, STRANGE, Ended, Tries
 from trying import program_of
+
+import packages  # of owner/, which roots.py puts on the path
 
 MIB = 1 << 20
 MAX_COLLECTION = 1 << 26
@@ -347,11 +353,29 @@ def shards(tries: Tries) -> None:
     tries.check("nothing else is left there", sorted(os.listdir(tries.folder / "shards")) == [*names, "shards.txt"])
 
 
+def of_packages(tries: Tries) -> None:
+    """What `owner/demo` takes has the size that is asked for in the archive: pages are shorter there than as files."""
+    page = b"<title>Fox</title>" + b"<p><b>red</b> <i>fox</i></p>" * 100
+    files = {**{b"%02d.html" % at: page for at in range(30)}, b"30.txt": b"\xff", **{b"%02d.txt" % at: b"hen " * 700 for at in range(31, 61)},
+             **{b"%02d.gz" % at: gzip.compress(b"owl " * 700) for at in range(61, 71)}}
+    own = tries.put("packages", files)
+    (own / "bash.list").write_text("".join(f"{own / name.decode()}\n" for name in [*files, b"missing"]))
+    packages.LISTS = own
+    for size, is_there in ((100_000, True), (1_000_000, False)):
+        said, texts = io.StringIO(), tries.folder / f"packages-{size}"
+        with contextlib.redirect_stdout(said):
+            runpy.run_path(str(HOME / "owner" / "demo"))["take"](size, texts)
+        ended = tries.run(sys.executable, HOME / "owner" / "publish", texts, f"public-{size}", "--program", tries.program)
+        has = int(ended.printed.decode().partition(" bytes of text")[0].rpartition(" ")[2].replace(",", ""))
+        tries.check(f"texts of packages for {size:,} bytes: the archive has {has:,}", f", {has:,} bytes" in said.getvalue() and (size <= has < size + 4000) == is_there)
+        tries.check("and it is said if there are no more", (f"less than {size:,} bytes" in said.getvalue()) != is_there)
+
+
 def main() -> int:
     program = program_of(sys.argv[1:])
     with tempfile.TemporaryDirectory() as folder:
         tries = Tries(Path(folder), program)
-        for each in (hostile, unreadable, title_lines, titles, faults, at_limits, later_fits, pages, choices, messages, pdfs, shards, *roots.CASES):
+        for each in (hostile, unreadable, title_lines, titles, faults, at_limits, later_fits, pages, choices, messages, pdfs, shards, of_packages, *roots.CASES):
             each(tries)
         tries.check("no script leaves half a file", not tries.parts())
         return tries.conclude()
