@@ -128,8 +128,9 @@ def alone_in(folder: str) -> Iterator[None]:
 SAID: set[str] = set()  # lines of the program on standard error, each of which one run of a script prints once
 
 
-def run(program: str, *words: str, tick: Callable[[], None] = lambda: None) -> Ended:
-    """Runs the program with these words, and calls `tick` each second meanwhile. No shell reads them."""
+def output(program: str, *words: str, tick: Callable[[], None] = lambda: None) -> tuple[int, str]:
+    """Runs the program with these words, and calls `tick` each second meanwhile. No shell reads them. Returns the status and
+    what it printed."""
     try:
         with subprocess.Popen([program, *words], stdin=subprocess.DEVNULL, stdout=subprocess.PIPE, stderr=subprocess.PIPE) as one:
             printed, said = waited(one, tick)
@@ -139,7 +140,13 @@ def run(program: str, *words: str, tick: Callable[[], None] = lambda: None) -> E
         if line not in SAID:
             say(printable(line))
         SAID.add(line)
-    return Ended(one.returncode, printable(printed.decode("utf-8", "backslashreplace").rstrip("\n")))
+    return one.returncode, printed.decode("utf-8", "backslashreplace").rstrip("\n")
+
+
+def run(program: str, *words: str, tick: Callable[[], None] = lambda: None) -> Ended:
+    """The same of a command that prints one line."""
+    status, printed = output(program, *words, tick=tick)
+    return Ended(status, printable(printed))
 
 
 def waited(one: subprocess.Popen, tick: Callable[[], None]) -> tuple[bytes, bytes]:
