@@ -10,6 +10,7 @@ than the archive. Lines over TCP run beside a server. A line passes if it prints
 """
 
 import json
+import os
 import re
 import shutil
 import subprocess
@@ -21,7 +22,7 @@ from typing import NamedTuple, Optional
 
 HOME = Path(__file__).resolve().parent.parent
 LIMIT = 60  # seconds of one line
-SIGNERS = ("minisign",)  # lines that name these are left out where they are not installed
+TOOLS = ("minisign", "make", "parallel")  # lines that name these are left out where they are not installed
 LEFT_OUT = ("rt ci", "python3 reader/play.py")
 TEXTS = {"one.txt": "a blood count", "two.txt": "count the hens", "three.txt": "red fox"}
 
@@ -51,8 +52,9 @@ def lines_of(block: list[str]) -> list[Line]:
 
 
 def type_in(shell_lines: list[str], folder: Path) -> subprocess.CompletedProcess:
-    """Runs the last line after the others, which set variables."""
-    return subprocess.run(["sh", "-c", "\n".join(shell_lines)], cwd=folder, capture_output=True, text=True, timeout=LIMIT, check=False)
+    """Runs the last line after the others, which set variables. The program is on the path, too."""
+    there = {**os.environ, "PATH": f"{folder}:{os.environ['PATH']}"}
+    return subprocess.run(["sh", "-c", "\n".join(shell_lines)], cwd=folder, env=there, capture_output=True, text=True, timeout=LIMIT, check=False)
 
 
 def status_wanted(line: Line) -> int:
@@ -76,7 +78,7 @@ class Session:
         return type_in([*self.variables, typed.replace("FOLDER", "folder")], self.folder)
 
     def try_line(self, line: Line) -> None:
-        if line.typed in LEFT_OUT or any(tool in line.typed and shutil.which(tool) is None for tool in SIGNERS):
+        if line.typed in LEFT_OUT or any(tool in line.typed and shutil.which(tool) is None for tool in TOOLS):
             print(f"left out: {line.typed}")
             return
         ended = self.run(line.typed)
