@@ -21,7 +21,9 @@ from pathlib import Path
 from typing import Iterator, NamedTuple, Optional
 
 import tracing
-from trying import BEFORE, MORE_ROOT, MORE_TEXTS, QUERY, REQUEST, ROOT, ROOT_IN_BLOCKS, ROW, TEXTS, framed, free_port, measure, program_of
+from trying import (
+    BEFORE, CATALOG_ROOT, MORE_ROOT, MORE_TEXTS, QUERY, REQUEST, ROOT, ROOT_IN_BLOCKS, ROW, TEXTS, catalog_file, framed, free_port,
+    measure, program_of)
 
 NO_MEMORY = framed(b"\x01\x06")  # the reply if memory ran out for a proof
 
@@ -70,6 +72,8 @@ COMMANDS = [
     Command(["grow", "I", "J", "G"], "growth 313\n", "G"),
     Command(["growth", ROOT, MORE_ROOT, "G"], "grown 3 4\n"),
     Command(["audit-growth", "I", "J", "G"], "grown 3 4\n"),
+    Command(["catalog-root", "S"], CATALOG_ROOT + "\n"),
+    Command(["catalog", CATALOG_ROOT, "1", QUERY, "C"], "1 0 1 13014 13014\n"),
 ]
 
 
@@ -157,7 +161,8 @@ class Client(Peer):
 
 
 def build(program: str, folder: Path) -> House:
-    """The three short texts, the same with a fourth, and what the commands store of them, as the program makes it."""
+    """The three short texts, the same with a fourth, what the commands store of them, as the program makes it, and a catalog of
+    the first twice."""
     (folder / "X").write_text(TEXTS, encoding="utf-8")
     (folder / "Y").write_text(MORE_TEXTS, encoding="utf-8")
     for words in [["build", "Y", "J"], *(command.words for command in COMMANDS if command.stores)]:
@@ -165,7 +170,10 @@ def build(program: str, folder: Path) -> House:
         if ended.status != 0:
             sys.exit(f"{words[0]} ended with status {ended.status}: {ended.printed.decode()}")
     (folder / "L").write_text(f"1 P {QUERY}\n", encoding="utf-8")
-    files = {name: (folder / name).read_bytes() for name in "XYIJPLMNTBG"}
+    (folder / "S").write_text(f"{ROOT}\n{ROOT}\n", encoding="utf-8")
+    proof = (folder / "P").read_bytes()
+    (folder / "C").write_bytes(catalog_file([ROOT, ROOT], [proof, proof[:-6] + b"\0\0"]))  # the second shard does not show the row
+    files = {name: (folder / name).read_bytes() for name in "XYIJPLMNTBGSC"}
     return House(program, folder, files, framed(b"\x00" + files["P"]))
 
 

@@ -4,10 +4,10 @@ usage: python3 tests/limits.py [--quick] [PROGRAM]
 
 PROGRAM is the program; without it, it is proved and built if needed. Makes collections at the limits (65,536
 documents, texts of 2^20 bytes, 16 MiB of text), migrates their indexes, answers queries of up to 32 terms with up to
-1,000 rows in both formats, asks for a proof that would be too long, shows all documents with every word, and gives the
-program files that promise more than they hold, nest deeply or are as long as they may be. With --quick it only does the
-last of these. Prints for each run its status, its first line, its seconds and the most memory that it held, and whether
-that is as it should be:
+1,000 rows in both formats, asks for a proof that would be too long, shows all documents with every word, checks the
+answer of 4,096 shards, and gives the program files that promise more than they hold, nest deeply or are as long as they
+may be. With --quick it only does the last of these. Prints for each run its status, its first line, its seconds and the
+most memory that it held, and whether that is as it should be:
 
 - At the limits memory suffices: no run ends with status 6.
 - `verify`, `audit` and `ask` print the same rows, with the scores of `rank`. `fetch` and `audit-fetch` print the same text.
@@ -29,7 +29,7 @@ import threading
 from pathlib import Path
 from typing import Callable, Iterator, NamedTuple, Optional, Union
 
-from trying import corpora, free_port, measure, program_of
+from trying import catalog_file, corpora, free_port, measure, program_of
 
 MIB = corpora.MIB
 LIMIT = 300  # seconds of one run
@@ -39,6 +39,9 @@ MAX_PROOF = 1 << 26
 MAX_INDEX = 1 << 29
 MAX_TEXT_FILE = 1 << 21
 MAX_GROWTH = 1 << 12
+MAX_CATALOG = 1 << 28
+MAX_SHARDS = 4096
+MAX_LIST = 1 << 20
 NO_ROOT = "00" * 32
 
 # Bytes of a TRA proof over 65,536 documents, each of which has one of the query's 21 words. Nearly all are met before the
@@ -236,6 +239,20 @@ def longest_texts(table: Table) -> None:
     table.wanted("a text of 2^20 + 1 bytes: build", ["build", "X", "N"], 4, "input: text 0 too long")
 
 
+def most_shards(table: Table) -> None:
+    """A catalog of 4,096 equal shards, of which the first thousand show their row."""
+    (table.folder / "X").write_text('["red fox"]', encoding="utf-8")
+    (root,) = table.wanted("one text: build", ["build", "X", "I"])
+    table.wanted("one text: prove", ["prove", "I", "tra", "2", "red", "P"])
+    proof = (table.folder / "P").read_bytes()
+    (table.folder / "S").write_text(f"{root}\n" * MAX_SHARDS, encoding="utf-8")
+    (catalog,) = table.wanted("4,096 shards: catalog-root", ["catalog-root", "S"])
+    proofs = [proof] * ROWS + [proof[:-6] + b"\0\0"] * (MAX_SHARDS - ROWS)
+    (table.folder / "C").write_bytes(catalog_file([root] * MAX_SHARDS, proofs))
+    rows = table.wanted("4,096 shards: catalog", ["catalog", catalog, str(ROWS), "red", "C"], rows=ROWS)
+    table.same("the shards of the rows", [row.split()[1] for row in rows], [str(shard) for shard in range(ROWS)])
+
+
 def repeated(front: bytes, unit: bytes, back: bytes, length: int) -> Iterator[bytes]:
     """A file of almost that length: the unit as often as it fits."""
     times = (length - len(front) - len(back)) // len(unit)
@@ -369,6 +386,28 @@ def grown() -> Iterator[Hostile]:
     yield Hostile("64 MiB", repeated(told, b"\0", b"", 1 << 26), f"refused: shape long {MAX_GROWTH}")
 
 
+def catalogs() -> Iterator[Hostile]:
+    """Proofs of catalogs."""
+    told = b"ATSS\x01"
+    yield Hostile("a catalog of 2^32 - 1 shards", told + b"\xff" * 4, "refused: shape count 5")
+    yield Hostile("a catalog of 4,096 shards with none of them", told + number(MAX_SHARDS), "refused: shape cut 9")
+    roots = told + number(MAX_SHARDS) + b"\xaa" * 32 * MAX_SHARDS
+    yield Hostile("a shard's proof of 2^32 - 1 bytes", roots + b"\xff" * 4, f"refused: shape count {len(roots)}")
+    yield Hostile("a shard's proof of 2^26 bytes with none of them", roots + number(MAX_PROOF), f"refused: shape cut {len(roots) + 4}")
+    end = len(roots) + 4 * MAX_SHARDS
+    yield Hostile("4,096 empty proofs, and zeros up to 2^28 bytes", repeated(roots, b"\0", b"", MAX_CATALOG), f"refused: shape trailing {end}")
+    yield Hostile("4,096 empty proofs", roots + bytes(4 * MAX_SHARDS), "refused: other-root")
+    yield Hostile("2^28 + 1 bytes", repeated(roots, b"\0", b"", MAX_CATALOG + 1), f"refused: shape long {MAX_CATALOG}")
+
+
+def lists_of_roots() -> Iterator[Hostile]:
+    line = b"00" * 32 + b"\n"
+    yield Hostile("4,097 roots", line * (MAX_SHARDS + 1), "input: list line 4097")
+    yield Hostile("1 MiB of line feeds", b"\n" * MAX_LIST, "input: list line 4097")
+    yield Hostile("a line of 1 MiB", b"0" * MAX_LIST, "input: list line 1")
+    yield Hostile("1 MiB and a byte", b"0" * (MAX_LIST + 1), f"input: longer than {MAX_LIST}")
+
+
 def hostile_files(table: Table) -> None:
     words: list[tuple[Callable[[], Iterator[Hostile]], list[list[str]], int]] = [
         (collections, [["rank", "H", "1", "a"]], 4),
@@ -377,6 +416,8 @@ def hostile_files(table: Table) -> None:
         (greatest_of_both, [["both", NO_ROOT, " ".join(f"q{at}" for at in range(32)), "H"]], 1),
         (given, [["fetch", NO_ROOT, "0", "H"]], 1),
         (grown, [["growth", NO_ROOT, NO_ROOT, "H"]], 1),
+        (catalogs, [["catalog", NO_ROOT, "1000", "a", "H"]], 1),
+        (lists_of_roots, [["catalog-root", "H"]], 4),
     ]
     path = table.folder / "H"
     for kinds, commands, status in words:
@@ -423,6 +464,7 @@ def main() -> int:
             most_text(table)
             most_documents(table)
             longest_texts(table)
+            most_shards(table)
     print("all is as it should be" if table.wrong == 0 else f"{table.wrong} are not as they should be")
     return 1 if table.wrong else 0
 

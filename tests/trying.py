@@ -25,6 +25,7 @@ ROOT = "297978110ffb580733eaf8938f9328114690e802ab3108a3bfabc34ba2db2490"
 ROOT_IN_BLOCKS = "2951f46d5980442cd63e807581d1fe33fdd82af7d29a0b4267f871c88b998e82"  # of the same texts
 MORE_TEXTS = TEXTS[:-1] + ',"fox hen"]'
 MORE_ROOT = "158bee81463a856290f8c62a370947e939a44b77a87bbd3c1d0dfe924202cd3c"
+CATALOG_ROOT = "cd0eb767d8f063b94abbe9107249329252168b3fbf608cab244429cabb1198d4"  # of the three texts twice
 BEFORE = b"before"  # the content of a file before another one is stored under its name
 
 
@@ -44,6 +45,11 @@ def expect(what: str, came: object, wanted: object) -> None:
 def framed(body: bytes) -> bytes:
     """A frame of a request or of a reply."""
     return struct.pack(">I", len(body)) + body
+
+
+def catalog_file(roots: list[str], proofs: list[bytes]) -> bytes:
+    """The proof of a catalog, made of those of its shards."""
+    return b"ATSS\1" + struct.pack(">I", len(roots)) + b"".join(map(bytes.fromhex, roots)) + b"".join(map(framed, proofs))
 
 
 class Tally:
