@@ -1,4 +1,5 @@
-"""A web server over a folder, and a server of proofs, which misbehave as they are told, for `folders.py`."""
+"""A web server over a folder, and a server of proofs, which misbehave as they are told, for `folders.py` and
+`catalogs.py`."""
 
 import contextlib
 import functools
@@ -7,7 +8,7 @@ import socket
 import threading
 import time
 from pathlib import Path
-from typing import Callable, Iterator, NamedTuple, Optional
+from typing import Callable, Iterable, Iterator, NamedTuple, Optional, Union
 
 LONG = 60  # seconds of silence, more than any script waits
 
@@ -98,22 +99,27 @@ def web(folder: Path, other: int = 0) -> Iterator[Web]:
         server.server_close()
 
 
-def answer(link: socket.socket, reply: Optional[bytes]) -> None:
-    """Reads one request, and sends these bytes for it, or nothing for a long time."""
+Reply = Union[bytes, Iterable[bytes], None]  # whole, in pieces, or none
+
+
+def answer(link: socket.socket, replies: Callable[[bytes], Reply]) -> None:
+    """Reads one request, and sends the reply for it, or nothing for a long time."""
     with link, contextlib.suppress(OSError):
         head = link.recv(4, socket.MSG_WAITALL)
-        link.recv(int.from_bytes(head, "big"), socket.MSG_WAITALL)
+        reply = replies(head + link.recv(int.from_bytes(head, "big"), socket.MSG_WAITALL))
         if reply is None:
             time.sleep(LONG)
         else:
-            link.sendall(reply)
+            for piece in [reply] if isinstance(reply, bytes) else reply:
+                link.sendall(piece)
             link.shutdown(socket.SHUT_WR)
             link.recv(1)
 
 
 @contextlib.contextmanager
-def replying(reply: Optional[bytes], family: int = socket.AF_INET) -> Iterator[str]:
-    """A server that has one reply for each request, or none. It is the address."""
+def replying(reply: Union[Reply, Callable[[bytes], Reply]], family: int = socket.AF_INET) -> Iterator[str]:
+    """A server that has one reply for each request, or one that the request decides. It is the address."""
+    replies = reply if callable(reply) else lambda _: reply
     host = "::1" if family == socket.AF_INET6 else "127.0.0.1"
     with socket.socket(family) as listener:
         listener.bind((host, 0))
@@ -123,7 +129,7 @@ def replying(reply: Optional[bytes], family: int = socket.AF_INET) -> Iterator[s
             with contextlib.suppress(OSError):
                 while True:
                     link, _ = listener.accept()
-                    threading.Thread(target=answer, args=[link, reply], daemon=True).start()
+                    threading.Thread(target=answer, args=[link, replies], daemon=True).start()
 
         threading.Thread(target=serve, daemon=True).start()
         port = listener.getsockname()[1]

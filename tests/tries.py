@@ -1,4 +1,4 @@
-"""Runs scripts and the program in a folder of its own, and counts what passed, for `folders.py`."""
+"""Runs scripts and the program in a folder of its own, and counts what passed, for `folders.py`, `publish.py` and `catalogs.py`."""
 
 import contextlib
 import os
@@ -36,8 +36,8 @@ class Tries(Tally):
         return Ended(done.returncode, done.stdout or b"", done.stderr.decode())
 
     def script(self, name: str, *words: object, given: bytes = b"", output: Optional[Path] = None) -> Ended:
-        own = ["--program", self.program] if name in ("announce", "follow", "keep") else []
-        folder = "reader" if name in ("follow", "keep", "titles") else "owner"
+        own = ["--program", self.program] if name in ("announce", "catalog", "follow", "keep") else []
+        folder = "reader" if name in ("catalog", "follow", "keep", "titles") else "owner"
         return self.run(sys.executable, HOME / folder / f"{name}.py", *own, *words, given=given, output=output)
 
     def collect(self, *words: object, output: Optional[Path] = None) -> Ended:
