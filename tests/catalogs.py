@@ -1,13 +1,18 @@
 """Tries `reader/catalog.py` over real servers on loopback, one for each of 8 and of 64 shards: honest ones, and one that is dead,
 slow, or lies.
 
-usage: python3 tests/catalogs.py [PROGRAM]
+usage: python3 tests/catalogs.py [--real [--size MIB]] [PROGRAM]
 
 PROGRAM is the program; without it the one that is proved and built if needed. The rows must be those of a merge of what `rank`
 prints of each shard, the stored proof that of `prove`, cut by `vectors/make.py`, and the second client of `vectors/` must print
 the same. Prints what was tried and whether it passed, and `N passed, M failed`; ends with status 0 if nothing failed.
+
+With --real it makes 64 shards of texts of Debian packages that are installed, at least MIB together (256 if not given), and
+prints what each command took and the most memory that it held. `prove-catalog` and `audit-catalog` are run if the program knows
+them, and the servers are started if there is memory for all of them.
 """
 
+import argparse
 import contextlib
 import json
 import random
@@ -19,22 +24,26 @@ from typing import Callable, Iterator, NamedTuple, Optional
 
 from misbehaving import Reply, replying
 from tries import HOME, Ended, Tries
-from trying import framed, free_port, program_of
+from trying import framed, free_port, measure, program_of
 
 for folder in ("owner", "reader", "vectors"):  # wire.py is of reader/, and stands on what is in owner/
     sys.path.append(str(HOME / folder))
 
 import asking  # noqa: E402, of bench/
 import client  # noqa: E402
+import documents  # noqa: E402
 import make  # noqa: E402
+import packages  # noqa: E402
 import wire  # noqa: E402
 
 MIB = 1 << 20
+REAL_SHARDS = 64
 WORDS = ["red", "fox", "hen", "owl", "blue", "cat", "barn", "egg"]
 QUESTIONS = [(1, "red hen"), (3, "red hen"), (10, "fox"), (1000, "red fox hen owl cat"), (5, "only3"), (4, "only1 only2 red"), (7, "zebra")]
 # The texts of a catalog whose answers are known, with the number of rows, the length and the digest of its proof.
 KNOWN = [["red fox", "red red hen", "blue hen"], ["!!"], ["red fox", "red red hen", "blue hen"]]
 KNOWN_PROOFS = [(2, 1867, "953a0dec62955b9fd33f8a45138bfe545d7165615c02a30cef5e39cbf56324b8"), (3, 1871, "931cc412e5dbe17a1c55bfa6e492f9a8f9b6b077c552d55e0f304113b1786b59")]
+REAL_QUESTIONS = ["memory", "signal handler", "undefined behaviour of the compiler", "harbour ferry"]
 
 
 class Catalog(NamedTuple):
@@ -260,17 +269,161 @@ def lists(one: Catalog) -> None:
     tries.check("a proof that cannot be stored", ended.status == 3 and "cannot be stored" in ended.said)
 
 
+# Real texts
+
+
+class Table:
+    """What commands took so far, a line for each."""
+
+    def __init__(self, tries: Tries) -> None:
+        self.tries, self.known = tries, known_commands(tries)
+        self.needed = 0  # bytes of memory of a server of each shard
+        print(f"{'command':40}{'status':>7}{'seconds':>9}{'MiB held':>9}  first line", flush=True)
+
+    def run(self, says: str, *words: object) -> measure.Run:
+        """A run of the program."""
+        return self.tell(says, [self.ran(self.tries.program, *words)])
+
+    def ran(self, *command: object) -> measure.Run:
+        return measure.ended(measure.started(list(map(str, command)), self.tries.folder))
+
+    def tell(self, says: str, runs: list[measure.Run]) -> measure.Run:
+        """Prints what runs one after another took: all seconds, and the most memory."""
+        seconds, peak = sum(run.seconds for run in runs), max(run.peak for run in runs)
+        one = runs[-1]._replace(status=max(run.status for run in runs), seconds=seconds, peak=peak)
+        print(f"{says:40}{one.status:>7}{seconds:>9.2f}{peak / MIB:>9.1f}  {one.printed.partition(chr(10))[0]}", flush=True)
+        return one
+
+
+def real_collections(mib: int) -> Iterator[documents.Collection]:
+    """Texts of packages in the order of their files, cut where a shard has its part of all, or is full."""
+    one, seen = documents.Collection(), set()
+    for path in packages.paths():
+        data = packages.text_of(path) if path not in seen else b""
+        if 0 < len(data) <= packages.MOST:
+            seen.add(path)
+            if one.text_bytes >= mib * MIB / REAL_SHARDS or one.text_bytes + len(data) > documents.MAX_TEXTS:
+                yield one
+                one = documents.Collection()
+            one.add({"title": str(path), "text": data.decode()})
+    yield one
+
+
+def free_memory() -> int:
+    """The bytes of memory that are free on this machine, or become so if they are needed."""
+    return int(Path("/proc/meminfo").read_text().partition("MemAvailable:")[2].split()[0]) << 10
+
+
+def real_shards(table: Table, mib: int) -> list[str]:
+    """Builds the shards, and returns their roots: fewer if the packages have no more texts."""
+    runs, sizes, (tries, name) = [], [], (table.tries, "real")
+    (tries.folder / name).mkdir()
+    for shard, one in zip(range(REAL_SHARDS), real_collections(mib)):
+        (tries.folder / name / f"{shard}.json").write_bytes(one.data())
+        runs.append(table.ran(tries.program, "build", f"real/{shard}.json", f"real/{shard}.index"))
+        sizes.append((len(one.items), one.text_bytes))
+    texts, size = (sum(each) for each in zip(*sizes))
+    tries.check(f"{len(runs)} shards, {texts:,} texts, {size:,} bytes of text", len(runs) == REAL_SHARDS and size >= mib * MIB)
+    table.needed = REAL_SHARDS * table.tell("build, all shards one by one", runs).peak
+    return [run.printed.strip() for run in runs]
+
+
+def known_commands(tries: Tries) -> set[str]:
+    """Which commands the program has of those that may be missing."""
+    asked = {"prove-catalog": ["none", "tra", "1", "red", "none"], "audit-catalog": ["none", "1", "red", "none"]}
+    missing = {command for command, words in asked.items() if tries.ask(command, *words).status == 2}
+    for command in sorted(missing):
+        tries.skip(f"{command}: the program does not know it")
+    return asked.keys() - missing
+
+
+def enclose(rows: bytes, exact: bytes) -> bool:
+    """Whether each row has bounds of the score of that rank. Of rows that tie, any may be there."""
+    both = list(zip(rows.split(b"\n"), exact.split(b"\n")))[:-1]
+    return rows.count(b"\n") == exact.count(b"\n") and all(
+        int(row.split()[3]) <= int(of.split()[3]) <= int(row.split()[4]) for row, of in both)
+
+
+def of_file(table: Table, one: Catalog, says: str, query: str) -> bytes:
+    """What the check of the file takes, and its audit, which print the same rows."""
+    size = (one.tries.folder / "proof").stat().st_size
+    checked = table.run(f"  catalog of {size:,} bytes", "catalog", one.root, 10, query, "proof")
+    one.tries.check(f"{query!r}, {says}: accepted", checked.status == 0)
+    if "audit-catalog" in table.known:
+        audited = table.run("  audit-catalog", "audit-catalog", "indexes", 10, query, "proof")
+        one.tries.check(f"{query!r}, {says}: audited", (audited.status, audited.printed) == (0, checked.printed))
+    return checked.printed.encode()
+
+
+def asked(table: Table, one: Catalog, query: str) -> bytes:
+    """The rows of the file that the reader's script makes of what servers answer."""
+    tries, script = one.tries, HOME / "reader" / "catalog.py"
+    ended = table.tell(f"{query!r}: reader/catalog.py", [table.ran(sys.executable, script, "--program", tries.program, *one.words(10, query))])
+    rows = of_file(table, one, "from servers", query)
+    tries.check(f"{query!r}: the rows of the script", ended.printed.encode() == rows)
+    return rows
+
+
+def proved(table: Table, one: Catalog, query: str, algorithm: str) -> bytes:
+    """The rows of the file that `prove-catalog` makes."""
+    table.run(f"{query!r}: prove-catalog by {algorithm}", "prove-catalog", "indexes", algorithm, 10, query, "proof")
+    return of_file(table, one, f"by {algorithm}", query)
+
+
+def real_proofs(table: Table, one: Catalog) -> None:
+    """Files that `prove-catalog` makes by both algorithms. By TRA they have exact scores."""
+    for query in REAL_QUESTIONS:
+        exact, bounds = (proved(table, one, query, algorithm) for algorithm in ("tra", "tnra"))
+        one.tries.check(f"{query!r}: the bounds enclose the scores", enclose(bounds, exact))
+
+
+def real_answers(table: Table, roots: list[str]) -> None:
+    """Files of what a server of each shard answers."""
+    began = time.monotonic()
+    with served(table.tries, "real", roots) as one:
+        print(f"serve: {REAL_SHARDS} of them load their indexes in {time.monotonic() - began:.2f} s", flush=True)
+        for query in REAL_QUESTIONS:
+            asked(table, one, query)
+
+
+def real(tries: Tries, mib: int) -> None:
+    table = Table(tries)
+    roots = real_shards(table, mib)
+    if tries.failed:
+        print("install more of the packages that owner/packages.py names")
+        return
+    (tries.folder / "indexes").write_text("".join(f"real/{shard}.index\n" for shard in range(REAL_SHARDS)))
+    (tries.folder / "list").write_text("\n".join(roots))
+    table.run("catalog-root", "catalog-root", "list")
+    if "prove-catalog" in table.known:
+        real_proofs(table, Catalog(tries, "real", roots, []))
+    if table.needed < free_memory():
+        real_answers(table, roots)
+    else:
+        tries.skip(f"a server of each shard: they need {table.needed / MIB:,.0f} MiB, and {free_memory() / MIB:,.0f} are free")
+
+
+def small(tries: Tries) -> None:
+    known(tries)
+    for count in (8, 64):
+        roots = build(tries, f"of-{count}", [texts_of(shard) for shard in range(count)])
+        with served(tries, f"of-{count}", roots) as one:
+            for each in (honest, dead, slow, lying, lists):
+                each(one)
+
+
 def main() -> int:
-    if len(sys.argv) > 2 or sys.argv[1:] == ["-h"]:
-        sys.exit(__doc__)
+    words = argparse.ArgumentParser(description=__doc__, formatter_class=argparse.RawDescriptionHelpFormatter)
+    words.add_argument("--real", action="store_true", help="try real texts")
+    words.add_argument("--size", metavar="MIB", type=int, default=256, help="of the real texts together, at least")
+    words.add_argument("program", metavar="PROGRAM", nargs="?")
+    said = words.parse_args()
     with tempfile.TemporaryDirectory() as folder:
-        tries = Tries(Path(folder), program_of(sys.argv[1:]))
-        known(tries)
-        for count in (8, 64):
-            roots = build(tries, f"of-{count}", [texts_of(shard) for shard in range(count)])
-            with served(tries, f"of-{count}", roots) as one:
-                for each in (honest, dead, slow, lying, lists):
-                    each(one)
+        tries = Tries(Path(folder), program_of([said.program] if said.program else []))
+        if said.real:
+            real(tries, said.size)
+        else:
+            small(tries)
         return tries.conclude()
 
 
