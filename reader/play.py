@@ -14,6 +14,7 @@ import subprocess
 import sys
 import tempfile
 import time
+from typing import Any, Callable, Iterator, Optional
 
 HERE = os.path.dirname(os.path.abspath(__file__))
 TOP = os.path.dirname(HERE)
@@ -22,22 +23,28 @@ sys.dont_write_bytecode = True
 sys.path.insert(0, HERE)
 from ats_reader import CCatalogRow, CRow, CTerm, Fault, Reader, Verdict, printed
 
+Entry = dict[str, Any]  # what a file of vectors has of one of them
+Parts = list[list[Any]]  # long bytes: see vectors/README.md
+Ended = tuple[int, bytes]  # a status, and what is printed
+Call = Callable[[list[str], Optional[bytes]], Ended]  # of a command's words but for its file, and of that file
+Told = tuple[int, int, int, int, int]  # the numbers of a verdict
 
-def proved():
+
+def proved() -> str:
     """Proves the static library by ./prove, and returns its path."""
     if subprocess.run([os.path.join(TOP, "prove"), "ats_reader"]).returncode:
         sys.exit("there is no library to call: ./prove says above why it could not be built")
     return os.path.join(CRATE, "out", "libats_reader.a")
 
 
-def install(archive, folder):
+def install(archive: str, folder: str) -> tuple[str, str]:
     """Installs the library below a folder by the Makefile, and returns the paths of its two forms."""
     words = [f"ARCHIVE={os.path.abspath(archive)}", f"PREFIX={folder}/prefix", f"OUT={folder}/made"]
     subprocess.run(["make", "--silent", "-C", HERE, "install", *words], check=True)
     return os.path.join(folder, "prefix", "lib", "libats_reader.a"), os.path.join(folder, "prefix", "lib", "libats_reader.so.1")
 
 
-def build(archive, folder):
+def build(archive: str, folder: str) -> tuple[str, str]:
     """Makes `check` by C and `libats_reader.so.1` in the folder."""
     static, shared = install(archive, folder)
     check = os.path.join(folder, "check")
@@ -48,7 +55,7 @@ def build(archive, folder):
 
 # ---- the callers: each a name, and the words that call it
 
-def by_go(folder):
+def by_go(folder: str) -> list[str]:
     made, lib = os.path.join(folder, "check-go"), os.path.join(folder, "prefix", "lib")
     flags = {"PKG_CONFIG_PATH": os.path.join(lib, "pkgconfig"), "GOCACHE": os.path.join(folder, "go"), "GOPROXY": "off",
              "CGO_LDFLAGS_ALLOW": "-Wl,-rpath.*", "CGO_LDFLAGS": f"-Wl,-rpath,{lib}"}
@@ -57,26 +64,27 @@ def by_go(folder):
     return [made]
 
 
-def by_rust(folder):
+def by_rust(folder: str) -> list[str]:
     made, lib = os.path.join(folder, "check-rust"), os.path.join(folder, "prefix", "lib")
     subprocess.run(["rustc", "--edition", "2021", "-O", "-L", lib, "-C", f"link-arg=-Wl,-rpath,{lib}", "-o", made,
                     os.path.join(HERE, "check.rs")], check=True)
     return [made]
 
 
-def by_node(folder):
+def by_node(folder: str) -> list[str]:
     return ["node", os.path.join(HERE, "check.mjs"), os.path.join(TOP, "web", "out", "page.wasm")]
 
 
-def by_portable(folder):
+def by_portable(folder: str) -> list[str]:
     return [os.path.join(HERE, "portable", "out", "check")]
 
 
-def by_arm64(folder):
+def by_arm64(folder: str) -> list[str]:
     return ["qemu-aarch64", "-L", "/usr/aarch64-linux-gnu", os.path.join(HERE, "portable", "out", "check-arm64")]
 
 
-SAMPLES = {  # a caller: what must be there, and what makes it
+# a caller: the tools and the files that must be there, and what makes it
+SAMPLES: dict[str, tuple[list[str], list[str], Callable[[str], list[str]]]] = {
     "go": (["go", "pkg-config"], [], by_go),
     "rust": (["rustc"], [], by_rust),
     "node": (["node"], ["web/out/page.wasm"], by_node),
@@ -85,7 +93,7 @@ SAMPLES = {  # a caller: what must be there, and what makes it
 }
 
 
-def callers(check, folder):
+def callers(check: str, folder: str) -> dict[str, list[str]]:
     """The callers that can be made here; the others are named."""
     made = {"c": [check]}
     for name, (tools, files, make) in SAMPLES.items():
@@ -100,12 +108,12 @@ def callers(check, folder):
 
 # ---- the vectors
 
-def vector(name):
+def vector(name: str) -> Any:
     with open(os.path.join(TOP, "vectors", name + ".json"), encoding="ascii") as file:
         return json.load(file)
 
 
-def joined(parts):
+def joined(parts: Parts) -> bytes:
     """The bytes of parts, as vectors/README.md says."""
     out = bytearray()
     for part in parts:
@@ -117,21 +125,21 @@ def joined(parts):
     return bytes(out)
 
 
-def changed(proof, changes):
+def changed(proof: bytes, changes: list[tuple[int, int, str]]) -> bytes:
     for start, end, digits in changes:
         proof = proof[:start] + bytes.fromhex(digits) + proof[end:]
     return proof
 
 
-def lines(it):
+def lines(it: Entry) -> bytes:
     return "".join(line + "\n" for line in it["lines"]).encode("ascii")
 
 
-def listed(words):
+def listed(words: list[str]) -> bytes:
     return "".join(word + "\n" for word in words).encode("ascii")
 
 
-def bad_lists():
+def bad_lists() -> Iterator[tuple[str, list[str], bytes, int, bytes]]:
     """Lists of roots in which a line is bad, and the line that is printed for it."""
     root = "5e" * 32
     for number, bad in [(1, b""), (1, b"\n"), (2, listed([root, root.upper()])), (2, listed([root]) + b"\r"),
@@ -139,11 +147,11 @@ def bad_lists():
         yield "lists", ["catalog-root"], bad, 4, f"input: list line {number}\n".encode("ascii")
 
 
-def verified(it, proof):
+def verified(it: Entry, proof: bytes) -> tuple[list[str], bytes, int, bytes]:
     return ["verify", it["root"], str(it["r"]), it["query"]], proof, it["status"], lines(it)
 
 
-def cases():
+def cases() -> Iterator[tuple[str, list[str], Optional[bytes], int, bytes]]:
     """Each vector: file, the words of a command but for its file, that file or None, the status, and what is printed."""
     proofs = vector("proofs")
     for it in proofs.values():
@@ -174,7 +182,7 @@ def cases():
             yield "words", ["query", it["text"]], None, 0, "".join(f"{term} {count}\n" for term, count in it["terms"]).encode()
 
 
-def by_program(program, folder, words, file):
+def by_program(program: list[str], folder: str, words: list[str], file: Optional[bytes]) -> Ended:
     """What a caller prints and how it ends."""
     with tempfile.NamedTemporaryFile(dir=folder) as to:
         to.write(file or b"")
@@ -184,7 +192,7 @@ def by_program(program, folder, words, file):
     return ran.returncode, ran.stdout
 
 
-def by_python(reader, folder, words, file):
+def by_python(reader: Reader, folder: str, words: list[str], file: Optional[bytes]) -> Ended:
     name = os.path.join(folder, "file-python")
     with open(name, "wb") as to:
         to.write(file or b"")
@@ -196,7 +204,7 @@ def by_python(reader, folder, words, file):
 
 # ---- what no vector shows
 
-def rooms(shared):
+def rooms(shared: str) -> Iterator[bool]:
     """Too little room, what is left of it, and a query that is not UTF-8."""
     calls, size = ctypes.CDLL(shared), ctypes.c_size_t
     it, all_of = vector("proofs")["two terms, three rows by tnra"], vector("both")[0]
@@ -205,38 +213,38 @@ def rooms(shared):
     proof, root, query = bytes.fromhex(it["proof"]), bytes.fromhex(it["root"]), it["query"].encode()
     shown = [tuple(map(int, line.split()[1:])) for line in it["lines"]]
 
-    def told(verdict):
+    def told(verdict: Verdict) -> Told:
         return verdict.status, verdict.reason, verdict.count, verdict.first, verdict.second
 
-    def check(query, r, room):
+    def check(query: bytes, r: int, room: int) -> tuple[Told, list[tuple[int, ...]]]:
         rows, verdict = (CRow * 6)(*[(7, 8, 9)] * 6), Verdict()
         calls.ats_check(proof, size(len(proof)), root, query, size(len(query)), r, rows, size(room), ctypes.byref(verdict))
         return told(verdict), [(row.doc, row.lower, row.upper) for row in rows]
 
-    def catalog(query, r, room):
+    def catalog(query: bytes, r: int, room: int) -> tuple[Told, list[tuple[int, ...]]]:
         rows, verdict = (CCatalogRow * 6)(*[(7, 8, 9, 10)] * 6), Verdict()
         calls.ats_catalog(whole, size(len(whole)), bytes.fromhex(merged["root"]), query, size(len(query)), r, rows, size(room),
                           ctypes.byref(verdict))
         return told(verdict), [(row.shard, row.doc, row.lower, row.upper) for row in rows]
 
-    def root_of(roots):
+    def root_of(roots: bytes) -> tuple[Told, bytes]:
         root, verdict = ctypes.create_string_buffer(b"." * 32, 32), Verdict()
         calls.ats_catalog_root(roots, size(len(roots)), root, ctypes.byref(verdict))
         return told(verdict), root.raw
 
-    def both(room):
+    def both(room: int) -> tuple[Told, list[int]]:
         docs, verdict, bytes_of = (ctypes.c_uint32 * 6)(*[7] * 6), Verdict(), joined(all_of["proof"])
         text = all_of["query"].encode()
         calls.ats_both(bytes_of, size(len(bytes_of)), bytes.fromhex(all_of["root"]), text, size(len(text)), docs, size(room),
                        ctypes.byref(verdict))
         return told(verdict), list(docs)
 
-    def terms(query, room):
+    def terms(query: bytes, room: int) -> tuple[Told, list[tuple[bytes, int, int]]]:
         terms, verdict = (CTerm * 3)(*[(tuple([7] * 64), 8, 9)] * 3), Verdict()
         calls.ats_query(query, size(len(query)), terms, size(room), ctypes.byref(verdict))
         return told(verdict), [(bytes(term.word), term.size, term.weight) for term in terms]
 
-    def line(verdict, room):
+    def line(verdict: Told, room: int) -> tuple[int, int, bytes]:
         text, told = ctypes.create_string_buffer(b"." * 30, 30), size(99)
         status = calls.ats_line(ctypes.byref(Verdict(*verdict)), text, size(room), ctypes.byref(told))
         return status, told.value, text.raw
@@ -283,7 +291,7 @@ def rooms(shared):
     yield line((1, 80, 2 ** 32, 0, 0), 30) == (0, 0, b"." * 30)
 
 
-def compare(made, folder):
+def compare(made: dict[str, list[str]], folder: str) -> None:
     """Prints how long the library and its portable form take for the longest accepted proof, from start to end."""
     words, file = max(((it[1], it[2]) for it in cases() if it[0] == "large" and it[3] == 0), key=lambda it: len(it[1]))
     for name in ("c", "portable"):
@@ -297,10 +305,10 @@ def compare(made, folder):
 
 
 class Count:
-    def __init__(self):
+    def __init__(self) -> None:
         self.passed, self.failed = {}, 0
 
-    def see(self, name, right, about):
+    def see(self, name: str, right: bool, about: object) -> None:
         if right:
             self.passed[name] = self.passed.get(name, 0) + 1
         else:
@@ -308,7 +316,7 @@ class Count:
             print(f"failed: {name}: {about}")
 
 
-def play(count, name, call, many):
+def play(count: Count, name: str, call: Call, many: bool) -> None:
     """Plays all vectors with a caller; a program is called for several at a time."""
     with concurrent.futures.ThreadPoolExecutor(os.cpu_count() if many else 1) as pool:
         # A word that a program is called with has no byte 0.
@@ -319,7 +327,7 @@ def play(count, name, call, many):
             count.see(f"{file} by {name}", found == (status, text), about)
 
 
-def main(archive=None):
+def main(archive: Optional[str] = None) -> int:
     archive, count = archive or proved(), Count()
     with tempfile.TemporaryDirectory() as folder:
         check, shared = build(archive, folder)

@@ -12,7 +12,7 @@ import time
 import urllib.error
 import urllib.parse
 import urllib.request
-from typing import Iterator
+from typing import IO, Iterator, NoReturn
 
 from archive_files import Fault, TooLong, printable, read_within, reason, shown
 
@@ -25,7 +25,8 @@ class TooSlow(Exception):
 
 
 class NoRedirects(urllib.request.HTTPRedirectHandler):
-    def redirect_request(self, req, fp, code, msg, headers, newurl):
+    def redirect_request(self, req: urllib.request.Request, fp: IO[bytes], code: int, msg: str, headers: http.client.HTTPMessage,
+                         newurl: str) -> NoReturn:
         raise Fault(f"the server redirects to {printable(newurl)}: if you trust that address, give it as SOURCE", 3)
 
 
@@ -35,7 +36,7 @@ OPENER = urllib.request.build_opener(NoRedirects)
 @contextlib.contextmanager
 def within(seconds: float) -> Iterator[None]:
     """Ends the block by TooSlow after this time, whatever it waits for."""
-    def ring(*_) -> None:
+    def ring(*_: object) -> None:
         raise TooSlow
 
     signal.signal(signal.SIGALRM, ring)
