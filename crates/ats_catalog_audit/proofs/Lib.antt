@@ -1,0 +1,7 @@
+pub mod Public
+mod AllShown
+mod Clashing
+mod Firsts
+mod Taken
+mod Told
+mod UnderWay

@@ -1,0 +1,4 @@
+pub mod Verdicts
+pub mod Taken
+pub mod UnderWay
+pub mod Inner
