@@ -54,6 +54,7 @@ COMMANDS = {
     "audit-both": "IsBothAudited",
     "grow": "IsGrowthStored",
     "audit-growth": "IsGrowthAudited",
+    "audit-catalog": "IsCatalogAudited",
 }
 
 WORD = r"[^\W\d](?:[\w']|-(?=\w))*"

@@ -7,6 +7,8 @@ mod AuditEnds
 mod FoundGrows
 mod ListCuts
 mod ListEntries
+mod Archives
+mod CatalogSteps
 mod Gathers
 mod GatherSteps
 mod Reports

@@ -1,6 +1,6 @@
 -- The audits of the files of each kind. That a file is read, checked under the roots of archives and searched for a collision
 -- with them is stated once.
-use Rattle.std.specs.Prelude.{ℕ, List, Option}
+use Rattle.std.specs.Prelude.{◌^◌, ℕ, List, Option}
 use Rattle.ats_tree.specs.Differences.{Difference}
 use Rattle.ats_tree.specs.declared.hashed.Place.{Place}
 use Rattle.ats_commit.specs.Archive.{Archive}
@@ -12,10 +12,13 @@ use Rattle.ats_inclusion.specs.Value.{TextProof}
 use Rattle.ats_consistency.specs.Strings.{Beside}
 use Rattle.ats_consistency.specs.Strings as growth
 use Rattle.ats_consistency.specs.Value.{Growth}
-use Rattle.ats_plan.specs.Plan.{Plan}
-use Rattle.ats_console.specs.Kinds.{Kind, proof_kind, both_kind, text_kind, growth_kind, checks_named}
+use Rattle.ats_shards.specs.Catalog.{catalog_root}
+use Rattle.ats_catalog.specs.Strings.{CatalogPlace}
+use Rattle.ats_catalog_audit.specs.Verdicts.{Shards, AreAcceptedShards, shards_collision}
+use Rattle.ats_plan.specs.Plan.{Plan, Gets}
+use Rattle.ats_console.specs.Kinds.{Kind, proof_kind, both_kind, text_kind, growth_kind, catalog_kind, checks_named}
 use Rattle.ats_console.specs.declared.stops.Stop.{Stop}
-use Rattle.ats_auditors.specs.Collided.{finds_none, lines_of_proof_collision, lines_of_text_collision, lines_of_growth_collision}
+use Rattle.ats_auditors.specs.Collided.{finds_none, lines_of_proof_collision, lines_of_text_collision, lines_of_growth_collision, lines_of_catalog_collision}
 
 -- an audit against some archives: the kind of the file under their roots, the first collision of what it says with them, and
 -- the lines of a collision
@@ -55,6 +58,23 @@ growth_audit H older newer = record {
   first = growth.growth_collision H older newer;
   lines_of = lines_of_growth_collision;
 }
+
+-- of the proof of a catalog's answer, with the proof of each shard
+abbrev pub catalog_audit : (List ℕ → List ℕ) → List Archive → List (List ℕ × ℕ) → (r : ℕ) → Audit Shards CatalogPlace
+catalog_audit H catalog query r = record {
+  kind = record {
+    limit = 2 ^ 28;
+    accepted = AreAcceptedShards H (catalog_root H catalog) query r;
+    rejects = (catalog_kind H (catalog_root H catalog) query r).rejects;
+  };
+  first = shards_collision H catalog query;
+  lines_of = lines_of_catalog_collision;
+}
+
+-- bytes are accepted as a value that has no collision
+abbrev pub audits_bytes : {V P : Type 0} → (List ℕ → List ℕ) → Audit V P → (bytes : List ℕ) → (V → Plan Stop) → Plan Stop
+audits_bytes {V} H audit bytes rest =
+    Gets V (audit.kind.accepted bytes) (audit.kind.rejects bytes) (λ v. finds_none H (audit.first v) audit.lines_of (rest v))
 
 -- the named file is read, what its bytes say is accepted, and it has no collision
 abbrev pub audits_named : {V P : Type 0} → (List ℕ → List ℕ) → Audit V P → (name : List ℕ) → (V → Plan Stop) → Plan Stop

@@ -4,9 +4,10 @@ use Rattle.ats_tree.specs.Differences.{Difference}
 use Rattle.ats_tree.specs.declared.hashed.Place.{Place}
 use Rattle.ats_inclusion.specs.Strings.{TextPlace}
 use Rattle.ats_consistency.specs.Strings.{Beside}
+use Rattle.ats_catalog.specs.Strings.{CatalogPlace, over_roots, in_proof}
 use Rattle.ats_plan.specs.Files.{Files}
 use Rattle.ats_plan.specs.Plan.{Plan, Tries}
-use Rattle.ats_console.specs.CollisionLines.{lines_of_collision, lines_of_strings, lines_of_pair}
+use Rattle.ats_console.specs.CollisionLines.{lines_of_collision, lines_of_shard_collision, lines_of_strings, lines_of_pair}
 use Rattle.ats_console.specs.Kinds.{IsChecked}
 use Rattle.ats_console.specs.declared.stops.Stop.{Stop}
 use Rattle.ats_console.specs.declared.stops.Stop.TheVariants.{Collision}
@@ -55,3 +56,15 @@ abbrev pub lines_of_growth_collision : Difference Beside → List ℕ
 lines_of_growth_collision collision =
     lines_of_pair (codes "growth " ++ decimal collision.place.part) (codes "first") collision.theirs (codes "second")
     collision.ours
+
+abbrev pub roots_tree_words : Bool → List ℕ
+roots_tree_words true = codes "header"
+roots_tree_words false = codes "roots"
+
+-- of the proof of a catalog's answer
+abbrev pub lines_at_catalog_place : CatalogPlace → (ours theirs : List ℕ) → List ℕ
+lines_at_catalog_place (over_roots place) ours theirs = lines_of_strings (roots_tree_words place.header) place.depth place.turns ours theirs
+lines_at_catalog_place (in_proof shard place) ours theirs = lines_of_shard_collision shard place ours theirs
+
+abbrev pub lines_of_catalog_collision : Difference CatalogPlace → List ℕ
+lines_of_catalog_collision collision = lines_at_catalog_place collision.place collision.ours collision.theirs

@@ -1,5 +1,5 @@
 -- The plans of the commands that audit files.
-use Rattle.std.specs.List.{list_any}
+use Rattle.std.specs.List.{AllZip, list_any}
 use Rattle.std.specs.Prelude.{ℕ, List, ◌≡◌, ◌^◌, ◌<◌, ◌≤◌, ◌++◌, ◌∷◌, true, false, []}
 use Rattle.ats_terms.specs.Query.{IsQueryOf}
 use Rattle.ats_commit.specs.Archive.{Archive}
@@ -15,18 +15,29 @@ use Rattle.ats_inclusion.specs.Strings.{text_collision, IsOwnText}
 use Rattle.ats_consistency.specs.Bytes.{IsAcceptedGrowth}
 use Rattle.ats_consistency.specs.Headline.{HasGrown}
 use Rattle.ats_consistency.specs.Strings.{growth_collision}
+use Rattle.ats_grammar.specs.Front.{IsBad}
+use Rattle.ats_grammar.specs.declared.fault.ShapeFault.{ShapeFault}
+use Rattle.ats_refusal.specs.declared.proof.Rejection.TheVariants.{Shape}
+use Rattle.ats_shards.specs.Catalog.{catalog_root}
+use Rattle.ats_shards.specs.Grammar.{catalog_schema}
+use Rattle.ats_shards.specs.Value.{Framed, IsCatalogProof}
+use Rattle.ats_catalog.specs.Accepts.{merged_rows}
+use Rattle.ats_catalog.specs.Headline.{AreRightIn}
+use Rattle.ats_catalog_audit.specs.Verdicts.{AreAcceptedShards, shards_collision}
 use Rattle.ats_plan.specs.Files.{Files}
 use Rattle.ats_plan.specs.Plan.{Plan, Finishes, Tries, Gets, Makes, Reads}
 use Rattle.ats_console.specs.Kinds.{printed_text, line_of_grown}
-use Rattle.ats_console.specs.Print.{lines, lines_of_documents}
+use Rattle.ats_console.specs.Print.{lines, lines_of_catalog, lines_of_documents}
 use Rattle.ats_console.specs.Read.{HasIndex}
-use Rattle.ats_console.specs.Steps.{AsksRanking, asks_ranking, reads_index, asks_query, reads_file}
+use Rattle.ats_console.specs.Names.{HasNames, reads_names}
+use Rattle.ats_console.specs.RejectionLines.{line_of_rejection}
+use Rattle.ats_console.specs.Steps.{AsksRanking, asks_ranking, reads_index, asks_query, reads_file, reads_shaped}
 use Rattle.ats_console.specs.Lists.{IsListOf, IsListStop}
 use Rattle.ats_console.specs.Stops.{line_of_long_proofs}
-use Rattle.ats_console.specs.Words.{AuditorCommand, AuditWords, AuditFetchWords, AuditBothWords, AuditGrowthWords, SweepWords, TrialWords}
+use Rattle.ats_console.specs.Words.{AuditorCommand, AuditWords, AuditFetchWords, AuditBothWords, AuditGrowthWords, AuditCatalogWords, SweepWords, TrialWords}
 use Rattle.ats_console.specs.declared.stops.Stop.{Stop}
 use Rattle.ats_console.specs.declared.stops.Stop.TheVariants.{Input, Rejected, Collision}
-use Rattle.ats_auditors.specs.Audited.{proof_audit, audits_named, text_audit, both_audit, growth_audit}
+use Rattle.ats_auditors.specs.Audited.{proof_audit, audits_named, audits_bytes, text_audit, both_audit, growth_audit, catalog_audit}
 use Rattle.ats_auditors.specs.Collided.{IsClear}
 use Rattle.ats_auditors.specs.Findings.{Finding, AreFindings, IsSwept, is_refused, is_collision, lines_of_findings}
 use Rattle.ats_auditors.specs.Gathered.{total}
@@ -116,6 +127,48 @@ audit_growth_plan H words =
     audits_named H (growth_audit H older newer) words.file (λ growth.
     Finishes (λ files text. IsGrowthAudited H files words text))))
 
+-- ---- `audit-catalog LIST R QUERY FILE`
+
+-- The archives are those of the indexes that the list names, as the shards of a catalog. The file is accepted under the
+-- catalog's root and has no collision with it, and the text is the lines of the rows of the answer, which are right for the
+-- catalog.
+pub record IsCatalogAudited (H : List ℕ → List ℕ) (files : Files) (words : AuditCatalogWords) (text : List ℕ) : Type 0 where
+  pub asks : AsksRanking words.r words.query
+  pub query : List (List ℕ × ℕ)
+  pub asked : IsQueryOf words.query query
+  pub names : List (List ℕ)
+  pub listed : HasNames files words.list names
+  pub catalog : List Archive
+  pub indexes : AllZip (HasIndex H files) names catalog
+  pub clear : IsClear (2 ^ 28) (AreAcceptedShards H (catalog_root H catalog) query words.r) (shards_collision H catalog query) files words.file
+  pub right : AreRightIn catalog query words.r (merged_rows query clear.checked.value.proofs)
+  pub printed : text ≡ lines_of_catalog (merged_rows query clear.checked.value.proofs)
+
+-- the archives of the named indexes in order, after those that it has
+abbrev pub reads_archives : (List ℕ → List ℕ) → (got : List Archive) → (names : List (List ℕ)) → (List Archive → Plan Stop) → Plan Stop
+reads_archives H got [] rest = rest got
+reads_archives H got (name ∷ names) rest = reads_index H name (λ archive. reads_archives H (got ++ archive ∷ []) names rest)
+
+-- the line is that of the first fault of bytes that spell no proof of a catalog's answer
+abbrev pub RejectsShape : (bytes : List ℕ) → Stop → Type 0
+RejectsShape bytes stop = (fault : ShapeFault) × IsBad catalog_schema bytes fault × (stop ≡ Rejected (line_of_rejection (Shape fault)))
+
+-- bytes against the archives of the named indexes. Their shape is checked before an index is read: so one index at a time is
+-- enough
+abbrev pub audits_catalog : (List ℕ → List ℕ) → AuditCatalogWords → (names : List (List ℕ)) → List (List ℕ × ℕ) → (bytes : List ℕ) → Plan Stop
+audits_catalog H words names query bytes =
+    Gets (List Framed) (IsCatalogProof bytes) (RejectsShape bytes) (λ shown.
+    reads_archives H [] names (λ catalog.
+    audits_bytes H (catalog_audit H catalog query words.r) bytes (λ shards.
+    Finishes (λ files text. IsCatalogAudited H files words text))))
+
+abbrev pub audit_catalog_plan : (List ℕ → List ℕ) → AuditCatalogWords → Plan Stop
+audit_catalog_plan H words =
+    asks_ranking words.r words.query (λ query.
+    reads_names words.list (λ names.
+    reads_shaped words.file (2 ^ 28) (λ bytes.
+    audits_catalog H words names query bytes)))
+
 -- ---- `sweep INDEX LIST`
 
 -- the bytes together are more than a sweep may gather
@@ -174,5 +227,6 @@ auditor_plan H (command.Audit words) = audit_plan H words
 auditor_plan H (command.AuditFetch words) = audit_fetch_plan H words
 auditor_plan H (command.AuditBoth words) = audit_both_plan H words
 auditor_plan H (command.AuditGrowth words) = audit_growth_plan H words
+auditor_plan H (command.AuditCatalog words) = audit_catalog_plan H words
 auditor_plan H (command.Sweep words) = sweep_plan H words
 auditor_plan H (command.Trial words) = trial_plan H words

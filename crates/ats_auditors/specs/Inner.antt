@@ -3,3 +3,4 @@
 pub mod Sweeping
 pub mod Trial
 pub mod Audited
+pub mod Catalogs

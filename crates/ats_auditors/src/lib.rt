@@ -1,15 +1,16 @@
 //! The commands of who holds the archive and wants to know whether a file that was accepted is right.
 //!
 //! `audit` checks whether an accepted proof and an index's archive contain two different strings with the same digest.
-//! `audit-fetch`, `audit-both` and `audit-growth` do so for the other kinds of files, and `sweep` for a list of proofs.
-//! `trial` proves, checks and audits the queries of a number over its texts.
+//! `audit-fetch`, `audit-both` and `audit-growth` do so for the other kinds of files, `audit-catalog` for the proof of a
+//! catalog's answer and the indexes of a list, one at a time, and `sweep` for a list of proofs. `trial` proves, checks and
+//! audits the queries of a number over its texts.
 //!
 //! The room stands on `ats_plan` and `ats_console` for what a command is and reads, on `ats_index` for archives, on
-//! `ats_audit`, `ats_fetch`, `ats_both` and `ats_growth` for the audits, and on `ats_prover`, `ats_client` and `ats_accepts`
-//! for the trial. [`answer`] comes to the text that the plan of a command allows (`specs/Commands`), or stops as its plan
-//! stops. What an audit of each kind of file is stands once (`specs/Audited.antt`), and what stops it is its first collision
-//! (`specs/Collided.antt`). How a command makes its answer may change freely; the order in which its inputs are tried may
-//! not.
+//! `ats_audit`, `ats_fetch`, `ats_both`, `ats_growth` and `ats_catalog_audit` for the audits, and on `ats_prover`,
+//! `ats_client` and `ats_accepts` for the trial. [`answer`] comes to the text that the plan of a command allows
+//! (`specs/Commands`), or stops as its plan stops. What an audit of each kind of file is stands once (`specs/Audited.antt`),
+//! and what stops it is its first collision (`specs/Collided.antt`). How a command makes its answer may change freely; the
+//! order in which its inputs are tried may not.
 //!
 //! ```
 //! // the lines of the rows, or why they are not right, of the file "answer.proof" against the index "archive.index"
@@ -26,6 +27,7 @@ ghost use Rattle.ats_console.specs.declared.stops.Stop.TheVariants.{Shelf as AtS
 ghost use Rattle.ats_auditors.specs.Commands.{auditor_plan};
 
 mod auditing;
+mod catalogs;
 mod documents;
 mod gathering;
 mod growths;
@@ -38,6 +40,7 @@ use ats_base::Shelf;
 use ats_console::{AuditorCommand, Stop};
 use ats_hash::Hash32;
 use auditing::audit;
+use catalogs::audit_catalog;
 use documents::audit_both;
 pub use gathering::Gathered;
 use growths::audit_growth;
@@ -79,6 +82,12 @@ pub fn answer<H: Hash32 + Sync, R: Threads + Sync, S: Shelf>(
         AuditorCommand::AuditGrowth { old, new, file } => audit_growth::<H, R, S>(
             rt, alloc, old, new, file, shelf,
         ),
+        AuditorCommand::AuditCatalog {
+            list,
+            r,
+            query,
+            file,
+        } => audit_catalog::<H, R, S>(rt, alloc, list, r, query, file, shelf),
         AuditorCommand::Sweep { index, list } => sweep::<H, R, S>(rt, alloc, index, list, shelf),
         AuditorCommand::Trial { number } => trial::<H, R>(rt, alloc, number),
     }

@@ -17,6 +17,7 @@ use Rattle.ats_inclusion.specs.Strings.{IsOwnOrCollides}
 use Rattle.ats_consistency.specs.Bytes.{IsAcceptedGrowth}
 use Rattle.ats_consistency.specs.Headline.{IsGrownOrCollides}
 use Rattle.ats_audit.specs.Verdicts.{IsTopOrTold}
+use Rattle.ats_catalog_audit.specs.Verdicts.{IsCatalogTopOrTold}
 use Rattle.ats_fetch.specs.Verdicts.{IsOwnOrTold}
 use Rattle.ats_both.specs.Verdicts.{AreBothOrTold}
 use Rattle.ats_growth.specs.Verdicts.{IsGrownOrTold}
@@ -119,13 +120,14 @@ catalog_root_plan H words =
 
 -- The named file is accepted under the root as the proof of a catalog's answer, and the text is the lines of its rows. For
 -- every catalog with the root, either these rows are right, or the file and the catalog contain two different strings with
--- equal digests.
+-- equal digests, and an audit of the bytes against that catalog returns two such strings.
 pub record IsCatalogChecked (H : List ℕ → List ℕ) (files : Files) (words : CatalogWords) (text : List ℕ) : Type 0 where
   pub asks : AsksRanking words.r words.query
   pub query : List (List ℕ × ℕ)
   pub asked : IsQueryOf words.query query
   pub checked : IsChecked (2 ^ 28) (IsAcceptedCatalog H words.root query words.r) files words.file
   pub headline : IsCatalogTopOrCollides H words.root query words.r checked.value
+  pub audited : IsCatalogTopOrTold H words.root query words.r checked.bytes checked.value
   pub rows : List CatalogRow
   pub answer : AreRowsOf query checked.value rows
   pub printed : text ≡ lines_of_catalog rows

@@ -5,11 +5,11 @@
 //! best documents of several archives, whose common root `catalog-root` prints.
 //!
 //! The room stands on `ats_plan` and `ats_console` for what a command is and reads, on `ats_client`, `ats_inclusion`,
-//! `ats_conjunction`, `ats_consistency`, `ats_shards` and `ats_catalog` for the checks, and on `ats_audit`, `ats_fetch`, `ats_both` and `ats_growth` only
-//! for what audits return. [`answer`] comes to the text that the plan of a command allows (`specs/Commands`), or stops as
-//! its plan stops. An accepted file comes with what follows for every archive with the root, and with what each audit of it
-//! returns. `verify_to_lines` is for who checks bytes that came over a link. How a command makes its answer may change
-//! freely; the order in which its inputs are tried may not.
+//! `ats_conjunction`, `ats_consistency`, `ats_shards` and `ats_catalog` for the checks, and on `ats_audit`, `ats_fetch`,
+//! `ats_both`, `ats_growth` and `ats_catalog_audit` only for what audits return. [`answer`] comes to the text that the plan
+//! of a command allows (`specs/Commands`), or stops as its plan stops. An accepted file comes with what follows for every
+//! archive with the root, and with what each audit of it returns. `verify_to_lines` is for who checks bytes that came over a
+//! link. How a command makes its answer may change freely; the order in which its inputs are tried may not.
 //!
 //! ```
 //! // the lines of the rows of the file "answer.proof", or why it is refused

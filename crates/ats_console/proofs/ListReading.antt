@@ -1,5 +1,5 @@
 -- A list that is read line by line.
-use Rattle.std.proofs.Common.{◌≡◌, ◌++◌, ◌∷◌, ◌≤◌, ◌+◌, ℕ, List, [], length, sym, ap, subst, ◌∙◌, inr, arith, append-nil, append_assoc}
+use Rattle.std.proofs.Common.{◌≡◌, ◌++◌, ◌∷◌, ◌≤◌, ◌+◌, ℕ, List, [], length, refl, sym, ap, subst, ◌∙◌, inr, arith, append-nil, append_assoc}
 use Rattle.std.specs.List.{AllZip}
 use Rattle.std.proofs.lemmas.Slice.Zip.{AllZip-long}
 use Rattle.ats_console.specs.Lists.{lines_of, IsBadLine}
@@ -9,6 +9,10 @@ pub record AreRead {V : Type 0} (Spells : List ℕ → V → Type 0) (bytes rest
   pub done : List (List ℕ)
   pub parts : lines_of bytes ≡ done ++ lines_of rest
   pub are : AllZip Spells done values
+
+pub no_lines : (lines : List (List ℕ)) → length lines ≡ 0 → lines ≡ []
+no_lines [] none = refl
+no_lines (l ∷ lines) none = absurd (omega (arith, none))
 
 module _ {V : Type 0} (Spells : List ℕ → V → Type 0) where
   one_more : (lines : List (List ℕ)) (values : List V) (line : List ℕ) (value : V) → AllZip Spells lines values → Spells line value

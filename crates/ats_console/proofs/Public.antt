@@ -41,7 +41,7 @@ pub use Rattle.ats_console.proofs.Sound.{Sound, ends, stores, fails, tries, gets
 -- these stops are not for words
 pub use Rattle.ats_console.proofs.Sound.{not_shelf, not_memory, not_input, not_rejected, not_collision}
 -- a step that commands share keeps that
-pub use Rattle.ats_console.proofs.Sound.{query_sound, ranking_sound, collection_sound, index_sound, roots_sound, checks_sound}
+pub use Rattle.ats_console.proofs.Sound.{query_sound, ranking_sound, collection_sound, index_sound, roots_sound, names_sound, checks_sound}
 -- bytes that spell a proof are its fields
 pub use Rattle.ats_console.proofs.OneProof.{spelled_fields}
 -- an honest proof within a limit is not too long, and one that is has one length
@@ -54,7 +54,7 @@ pub use Rattle.ats_console.proofs.OneKind.{IsKindOne, text_one, both_one, growth
 pub use Rattle.ats_console.proofs.KindEnds.{check_end}
 -- the texts of an index are UTF-8 and within the limits
 pub use Rattle.ats_console.proofs.KindEnds.{texts_of}
--- a list that is read line by line, its next line, and its end
-pub use Rattle.ats_console.proofs.ListReading.{AreRead, read_more, all_read, as_many_read, next_bad}
+-- a list that is read line by line, its next line, and its end; a list with no lines
+pub use Rattle.ats_console.proofs.ListReading.{AreRead, read_more, all_read, as_many_read, next_bad, no_lines}
 -- bytes are one list if each line has one reading, as any two lists are that go along a third in one way
 pub use Rattle.ats_console.proofs.OneList.{list_one, same_zip}

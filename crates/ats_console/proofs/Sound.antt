@@ -27,6 +27,7 @@ use Rattle.ats_plan.specs.Inner.Avoids.{Avoids}
 use Rattle.ats_plan.specs.Inner.Sound.{IsExact, IsOne, IsSound}
 use Rattle.ats_console.specs.Input.{AreJsonTexts, IsFirstJsonFault}
 use Rattle.ats_console.specs.RejectionLines.{line_of_rejection}
+use Rattle.ats_console.specs.Names.{SpellsName, reads_names}
 use Rattle.ats_console.specs.Roots.{SpellsRoot, reads_roots}
 use Rattle.ats_console.specs.Stops.{line_of_rows, stop_of_query, stop_of_json, stop_of_collection, stop_of_load}
 use Rattle.ats_console.specs.Steps.{StopsBy, IsRowCount, asks_query, asks_ranking, reads_collection, reads_index, RejectsBytes}
@@ -158,9 +159,12 @@ archive_one H bytes = record {
   one = one_by (IsLoadFault H bytes) stop_of_load (one_load_fault H bytes);
 }
 
--- a line spells one root
+-- a line spells one root, and one name
 one_root : (line a b : List ℕ) → SpellsRoot line a → SpellsRoot line b → a ≡ b
 one_root line a b is also = let same : Some a ≡ Some b = sym is ∙ also in cc
+
+one_name : (line a b : List ℕ) → SpellsName line a → SpellsName line b → a ≡ b
+one_name line a b is also = is.same ∙ sym also.same
 
 -- bytes are accepted as one proof
 pub one_accepted : (H : List ℕ → List ℕ) (root : List ℕ) (query : List (List ℕ × ℕ)) (r : ℕ) (bytes : List ℕ) (a b : Proof)
@@ -197,6 +201,9 @@ index_sound {H = H} later = reads (fails not_input) (λ bytes. gets (archive_one
 
 pub roots_sound : {name : List ℕ} {rest : List (List ℕ) → Plan Stop} → ((roots : List (List ℕ)) → Sound (rest roots)) → Sound (reads_roots name rest)
 roots_sound later = reads (fails not_input) (λ bytes. gets (list_one SpellsRoot 4096 one_root bytes) (λ stops. not_input stops.2) later)
+
+pub names_sound : {name : List ℕ} {rest : List (List ℕ) → Plan Stop} → ((names : List (List ℕ)) → Sound (rest names)) → Sound (reads_names name rest)
+names_sound later = reads (fails not_input) (λ bytes. gets (list_one SpellsName 4096 one_name bytes) (λ stops. not_input stops.2) later)
 
 pub checks_sound : {H : List ℕ → List ℕ} {root : List ℕ} {query : List (List ℕ × ℕ)} {r : ℕ} {bytes : List ℕ} {rest : Proof → Plan Stop}
     → ((proof : Proof) → Sound (rest proof)) → Sound (checks H root query r bytes rest)

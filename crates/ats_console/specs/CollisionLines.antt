@@ -28,3 +28,8 @@ lines_of_strings tree depth turns ours theirs =
 -- those of a proof's string
 abbrev pub lines_of_collision : Place → List ℕ → List ℕ → List ℕ
 lines_of_collision place ours theirs = lines_of_strings (tree_words place.tree) place.depth place.turns ours theirs
+
+-- those of a string of the proof of a shard, with the shard's number before the tree
+abbrev pub lines_of_shard_collision : ℕ → Place → List ℕ → List ℕ → List ℕ
+lines_of_shard_collision shard place ours theirs =
+    lines_of_strings (codes "shard " ++ (decimal shard ++ (codes " " ++ tree_words place.tree))) place.depth place.turns ours theirs

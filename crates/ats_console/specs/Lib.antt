@@ -9,5 +9,6 @@ pub mod Read
 pub mod Steps
 pub mod Making
 pub mod Roots
+pub mod Names
 pub mod Kinds
 pub mod Inner

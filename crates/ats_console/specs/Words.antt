@@ -170,6 +170,13 @@ pub record AuditGrowthWords : Type 0 where
   pub new : List ℕ
   pub file : List ℕ
 
+-- the words of `audit-catalog LIST R QUERY FILE`
+pub record AuditCatalogWords : Type 0 where
+  pub list : List ℕ
+  pub r : ℕ
+  pub query : List ℕ
+  pub file : List ℕ
+
 -- a command of who has the texts
 pub data MakerCommand : Type 0 where
   Rank : RankWords → MakerCommand
@@ -196,6 +203,7 @@ pub data AuditorCommand : Type 0 where
   AuditFetch : AuditFetchWords → AuditorCommand
   AuditBoth : AuditBothWords → AuditorCommand
   AuditGrowth : AuditGrowthWords → AuditorCommand
+  AuditCatalog : AuditCatalogWords → AuditorCommand
   Sweep : SweepWords → AuditorCommand
   Trial : TrialWords → AuditorCommand
 
@@ -240,6 +248,8 @@ auditor_meaning (auditor.AuditBoth index query proof) =
     AuditBoth (record { index = index.now; query = query.now; proof = proof.now })
 auditor_meaning (auditor.AuditGrowth old new file) =
     AuditGrowth (record { old = old.now; new = new.now; file = file.now })
+auditor_meaning (auditor.AuditCatalog list r query file) =
+    AuditCatalog (record { list = list.now; r = r; query = query.now; file = file.now })
 auditor_meaning (auditor.Sweep index list) = Sweep (record { index = index.now; list = list.now })
 auditor_meaning (auditor.Trial number) = Trial (record { number = number })
 
@@ -306,6 +316,8 @@ command_of_four word first second third fourth =
     else if bytes_eq word (codes "catalog")
     then option_and_then (λ digest. option_map (λ n. Checker (Catalog (record { root = digest; r = n; query = third; file = fourth })))
     (number_of second)) (root_word first)
+    else if bytes_eq word (codes "audit-catalog")
+    then option_map (λ n. Auditor (AuditCatalog (record { list = first; r = n; query = third; file = fourth }))) (number_of second)
     else None
 
 abbrev pub command_of_five : (word first second third fourth fifth : List ℕ) → Option Command

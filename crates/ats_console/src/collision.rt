@@ -1,7 +1,7 @@
 //! The lines that are printed if what is accepted and an archive contain two different strings with the same digest.
 
 ghost use Rattle.std.specs.Prelude.{◌≡◌, IfOk, string_bytes};
-ghost use Rattle.ats_console.specs.CollisionLines.{tree_words, lines_of_pair, lines_of_strings, lines_of_collision};
+ghost use Rattle.ats_console.specs.CollisionLines.{tree_words, lines_of_pair, lines_of_strings, lines_of_collision, lines_of_shard_collision};
 
 use ats_tree::{Place, Tree};
 use std::alloc::{AllocError, Global};
@@ -62,4 +62,26 @@ pub fn collision_lines(
 {
     let tree = tree_words(alloc, place.tree)?;
     strings_lines(alloc, tree.as_str(), place.depth, place.turns, ours, theirs)
+}
+
+/// Those of a string of the proof of a shard, with the number of the shard, from 0, before its tree.
+pub fn shard_collision_lines(
+    alloc: Global,
+    shard: u32,
+    place: Place,
+    ours: &[u8],
+    theirs: &[u8],
+) -> Result<Vec<u8>, AllocError>
+    ensures { IfOk result (λ lines. lines.items ≡ lines_of_shard_collision shard place ours.now theirs.now) }
+{
+    let tree = tree_words(alloc, place.tree)?;
+    let words = format!(in alloc; "shard {shard} {tree}")?;
+    strings_lines(
+        alloc,
+        words.as_str(),
+        place.depth,
+        place.turns,
+        ours,
+        theirs,
+    )
 }

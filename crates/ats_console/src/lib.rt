@@ -28,12 +28,12 @@ mod stop_lines;
 mod stops;
 mod words;
 
-pub use collision::{collision_lines, pair_lines, strings_lines};
+pub use collision::{collision_lines, pair_lines, shard_collision_lines, strings_lines};
 pub use input::{JsonFault, read_collection};
 pub use kinds::{
     CATALOG_FILE_LIMIT, GROWTH_FILE_LIMIT, TEXT_FILE_LIMIT, grown_line, print_text, refused,
 };
-pub use lists::{count_lines, first_line};
+pub use lists::{Name, count_lines, first_line, read_names};
 pub use phrase_line::PhraseLine;
 pub use print::{catalog_lines, document_lines, lines, root_line};
 pub use rejection::rejection_line;

@@ -197,6 +197,13 @@ pub enum AuditorCommand<'a> {
         new: &'a str,
         file: &'a str,
     },
+    /// `audit-catalog LIST R QUERY FILE`
+    AuditCatalog {
+        list: &'a str,
+        r: u32,
+        query: &'a str,
+        file: &'a str,
+    },
     /// `sweep INDEX LIST`
     Sweep {
         index: &'a str,
@@ -363,6 +370,12 @@ fn read_four<'a>(
         })),
         "catalog" => Some(Command::Checker(CheckerCommand::Catalog {
             root: root_word(first)?,
+            r: number(second)?,
+            query: third,
+            file: fourth,
+        })),
+        "audit-catalog" => Some(Command::Auditor(AuditorCommand::AuditCatalog {
+            list: first,
             r: number(second)?,
             query: third,
             file: fourth,

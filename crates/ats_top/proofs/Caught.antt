@@ -1,5 +1,6 @@
 -- If two strings of what was accepted and of an archive collide, each audit of it prints the first two that do.
-use Rattle.std.proofs.Common.{◌≡◌, ◌⊎◌, ◌∙◌, ℕ, List, Option, None, Some, refl, sym, ap, subst, inl, inr}
+use Rattle.std.proofs.Common.{◌≡◌, ◌⊎◌, ◌∙◌, ◌++◌, ◌∷◌, ℕ, List, [], Option, None, Some, refl, sym, ap, subst, inl, inr, append-nil, append_assoc}
+use Rattle.std.specs.List.{AllZip}
 use Rattle.std.specs.Prelude.{IsSome, option_map}
 use Rattle.ats_terms.specs.Query.{IsQueryOf}
 use Rattle.ats_tree.specs.Differences.{Difference}
@@ -19,17 +20,24 @@ use Rattle.ats_consistency.specs.Strings as growth
 use Rattle.ats_consistency.specs.Value.{Growth}
 use Rattle.ats_consistency.specs.Bytes.{IsAcceptedGrowth}
 use Rattle.ats_growth.proofs.Public as growths
+use Rattle.ats_shards.specs.Catalog.{catalog_root}
+use Rattle.ats_catalog_audit.specs.Verdicts.{Shards, AreAcceptedShards, shards_collision}
+use Rattle.ats_catalog_audit.proofs.Public as catalogs
 use Rattle.ats_plan.specs.Files.{Files, IsTold}
-use Rattle.ats_plan.specs.Plan.{Refuses}
-use Rattle.ats_console.specs.Words.{Audit, AuditBoth, AuditFetch, AuditGrowth, Command, command_of, Auditor}
+use Rattle.ats_plan.specs.Plan.{Plan, Refuses, Finishes}
+use Rattle.ats_console.specs.Words.{Audit, AuditBoth, AuditCatalog, AuditCatalogWords, AuditFetch, AuditGrowth, Command, command_of, Auditor}
+use Rattle.ats_console.specs.Read.{HasIndex}
 use Rattle.ats_console.specs.Steps.{AsksRanking}
+use Rattle.ats_console.specs.declared.stops.Stop.{Stop}
 use Rattle.ats_top.specs.Calling.{MayCall, MayOpen}
-use Rattle.ats_auditors.specs.Collided.{Collides, lines_of_proof_collision, lines_of_growth_collision, lines_of_text_collision}
+use Rattle.ats_auditors.specs.Collided.{Collides, lines_of_proof_collision, lines_of_catalog_collision, lines_of_growth_collision, lines_of_text_collision}
+use Rattle.ats_auditors.specs.Audited.{audits_bytes, catalog_audit}
+use Rattle.ats_auditors.specs.Commands.{IsCatalogAudited, reads_archives}
 use Rattle.ats_top.specs.Commands.{plan_of}
 use Rattle.ats_top.specs.Outside.{Outside}
 use Rattle.ats_top.specs.Run.{StepsHold, Excuse, NoMemory, SinkFailed, ShelfFailed, CallerFailed, DoorBroke, Ran}
 use Rattle.ats_top.specs.Serving.{Took}
-use Rattle.ats_top.specs.Theorem.{AuditsProof, AuditsText, AuditsBoth, AuditsGrowth, IsHindered, IsCaught}
+use Rattle.ats_top.specs.Theorem.{AuditsProof, AuditsText, AuditsBoth, AuditsGrowth, AuditsCatalog, IsHindered, IsCaught}
 use Rattle.ats_console.specs.declared.stops.Stop.TheVariants.{Shelf, Collision}
 use Rattle.ats_top.proofs.OneCommand.{its}
 use Rattle.ats_top.proofs.Sound.{plan_sound}
@@ -121,7 +129,7 @@ module _ (H : List ℕ → List ℕ) (root : List ℕ) (bytes : List ℕ) (archi
         inr (query, asked, inr (inr (audits.has.bytes, audits.has.file, inr (archive, audits.has.spelling, inr (inr (bytes, audits.file, inr (proof, own, inl (c, two, refl)))))))),
       ))
 
--- and those of a growth
+-- those of a growth
 pub growth_caught : (H : List ℕ → List ℕ) (old_root new_root bytes : List ℕ) (shown : Growth) → IsAcceptedGrowth H old_root new_root bytes shown
     → (older newer : Archive) → root_of H older ≡ old_root → root_of H newer ≡ new_root
     → IsSome (growth.growth_collision H older newer shown) → IsCaught H lines_of_growth_collision (AuditsGrowth H older newer bytes)
@@ -135,3 +143,56 @@ growth_caught H old_root new_root bytes shown accepted older newer is also =
       (λ never. never),
       inr (inr (audits.has.bytes, audits.has.file, inr (older, audits.has.spelling, inr (inr (audits.also.bytes, audits.also.file, inr (newer, audits.also.spelling, inr (inr (bytes, audits.file, inr (shown, own, inl (c, two, refl)))))))))),
     ))
+
+-- and those of a catalog's answer
+module _ (H : List ℕ → List ℕ) (root bytes : List ℕ) (catalog : List Archive) (is : catalog_root H catalog ≡ root) where
+  -- a command that reads the indexes comes to what is left
+  refuses_archives : (files : Files) (rest : List Archive → Plan Stop) (stop : Stop) (got : List Archive) (names : List (List ℕ)) (archives : List Archive)
+      → AllZip (HasIndex H files) names archives → Refuses Shelf files (rest (got ++ archives)) stop → Refuses Shelf files (reads_archives H got names rest) stop
+  refuses_archives files rest stop got [] [] have refused = subst (λ (all : List Archive). Refuses Shelf files (rest all) stop) (append-nil got) refused
+  refuses_archives files rest stop got [] (a ∷ archives) have refused = absurd have
+  refuses_archives files rest stop got (name ∷ names) [] have refused = absurd have
+  refuses_archives files rest stop got (name ∷ names) (archive ∷ archives) have refused =
+      inr (inr (
+        have.0.bytes,
+        have.0.file,
+        inr (
+          archive,
+          have.0.spelling,
+          refuses_archives files rest stop (got ++ archive ∷ []) names archives have.1
+              (subst (λ (all : List Archive). Refuses Shelf files (rest all) stop) (sym (append_assoc got (archive ∷ []) archives)) refused),
+        ),
+      ))
+
+  pub catalog_caught : (r : ℕ) (text : List ℕ) (query : List (List ℕ × ℕ)) (shards : Shards) → AsksRanking r text → IsQueryOf text query
+      → AreAcceptedShards H root query r bytes shards → IsSome (shards_collision H catalog query shards)
+      → IsCaught H lines_of_catalog_collision (AuditsCatalog H catalog r text bytes)
+  catalog_caught r text query shards asks asked accepted =
+      let own : AreAcceptedShards H (catalog_root H catalog) query r bytes shards = subst (λ (other : List ℕ). AreAcceptedShards H other query r bytes shards) (sym is) accepted in
+      caught H (shards_collision H catalog query shards) lines_of_catalog_collision (AuditsCatalog H catalog r text bytes) (catalogs.collision-collides H catalog query shards) (λ c two said files audits.
+      let words : AuditCatalogWords = record { list = audits.list; r = r; query = text; file = audits.shown } in
+      let rest : List Archive → Plan Stop = λ all. audits_bytes H (catalog_audit H all query r) bytes (λ shown. Finishes (λ files text. IsCatalogAudited H files words text)) in
+      let stop : Stop = Collision (lines_of_catalog_collision c) in
+      let refused : Refuses Shelf files (reads_archives H [] audits.names rest) stop =
+      refuses_archives files rest stop [] audits.names catalog audits.have (inr (shards, own, inl (c, two, refl))) in (
+        Auditor (AuditCatalog words),
+        ap command_of audits.says ∙ ap (option_map (λ n. Auditor (AuditCatalog (record { list = audits.list; r = n; query = text; file = audits.shown })))) audits.number,
+        (λ never. never),
+        (λ never. never),
+        inr (
+          asks.rows,
+          inr (
+            query,
+            asked,
+            inr (inr (
+              audits.listed.bytes,
+              audits.listed.file,
+              inr (
+                audits.names,
+                audits.listed.list,
+                inr (inr (bytes, audits.file, inr (shards.frames, own.accepted.says, refused))),
+              ),
+            )),
+          ),
+        ),
+      ))

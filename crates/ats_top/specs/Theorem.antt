@@ -1,14 +1,12 @@
 -- What holds if an accepted answer is wrong: each audit of the accepted bytes prints a collision.
-use Rattle.std.specs.Prelude.{◌≡◌, ◌≢◌, ◌⊎◌, ◌^◌, ℕ, List, [], ◌∷◌, codes, Some, IsSome}
+use Rattle.std.specs.Prelude.{◌≡◌, ◌≢◌, ◌⊎◌, ◌^◌, ℕ, List, [], ◌∷◌, codes, Some}
+use Rattle.std.specs.List.{AllZip}
 use Rattle.ats_base.specs.Outside.{Rose}
 use Rattle.ats_tree.specs.Differences.{Difference}
 use Rattle.ats_commit.specs.Archive.{Archive}
-use Rattle.ats_proof.specs.Value.{Proof}
-use Rattle.ats_shards.specs.Value.{Framed, IsCatalogProof}
-use Rattle.ats_catalog.specs.Accepts.{AreProofs}
-use Rattle.ats_catalog.specs.Strings.{catalog_collision}
 use Rattle.ats_plan.specs.Files.{Files, IsTold, IsFile}
 use Rattle.ats_console.specs.Words.{number_of}
+use Rattle.ats_console.specs.Names.{HasNames}
 use Rattle.ats_console.specs.Read.{HasIndex}
 use Rattle.ats_top.specs.Outside.{Outside}
 use Rattle.ats_top.specs.Run.{Ran}
@@ -46,7 +44,7 @@ pub record AuditsBoth (H : List ℕ → List ℕ) (archive : Archive) (query byt
   pub has : HasIndex H files index archive
   pub file : IsFile files proof (2 ^ 26) bytes
 
--- and of `audit-growth OLDINDEX NEWINDEX FILE`, with the indexes of these two archives
+-- of `audit-growth OLDINDEX NEWINDEX FILE`, with the indexes of these two archives
 pub record AuditsGrowth (H : List ℕ → List ℕ) (older newer : Archive) (bytes : List ℕ) (said : List (List ℕ))
     (files : Files) : Type 0 where
   pub old : List ℕ
@@ -56,6 +54,19 @@ pub record AuditsGrowth (H : List ℕ → List ℕ) (older newer : Archive) (byt
   pub has : HasIndex H files old older
   pub also : HasIndex H files new newer
   pub file : IsFile files growth 4096 bytes
+
+-- and of `audit-catalog LIST R QUERY FILE`, with a list of the indexes of these archives, this number of rows and this query
+pub record AuditsCatalog (H : List ℕ → List ℕ) (catalog : List Archive) (r : ℕ) (query bytes : List ℕ) (said : List (List ℕ))
+    (files : Files) : Type 0 where
+  pub list : List ℕ
+  pub rows : List ℕ
+  pub shown : List ℕ
+  pub says : said ≡ codes "audit-catalog" ∷ list ∷ rows ∷ query ∷ shown ∷ []
+  pub number : number_of rows ≡ Some r
+  pub names : List (List ℕ)
+  pub listed : HasNames files list names
+  pub have : AllZip (HasIndex H files) names catalog
+  pub file : IsFile files shown (2 ^ 28) bytes
 
 -- memory ran out; or the shelf or the sink failed, and the status is that of its fault
 abbrev pub IsHindered : (before now : Outside) → (status : ℕ) → Type 0
@@ -73,12 +84,3 @@ pub record IsCaught {P : Type 0} (H : List ℕ → List ℕ) (lines_of : Differe
   pub printed : (said : List (List ℕ)) (before now : Outside) (status : ℕ) → IsTold before.shelf.files
       → audits said before.shelf.files → Ran H said before now status
       → ((status ≡ 5) × Took before.sink now.sink (lines_of collision)) ⊎ IsHindered before now status
-
--- the bytes spell proofs of shards, and the first string of these that is not the catalog's own at its place has an equal
--- digest
-pub record HasCatalogCollision (H : List ℕ → List ℕ) (catalog : List Archive) (query : List (List ℕ × ℕ)) (bytes : List ℕ) : Type 0 where
-  pub shards : List Framed
-  pub says : IsCatalogProof bytes shards
-  pub proofs : List Proof
-  pub say : AreProofs shards proofs
-  pub collides : IsSome (catalog_collision H catalog query shards proofs)

@@ -20,14 +20,14 @@ ghost use Rattle.ats_plan.specs.Files.{IsFile};
 ghost use Rattle.ats_console.specs.Words.{algorithm_of, number_of, root_word, verify_words, fetch_words, both_words, growth_words, catalog_words};
 ghost use Rattle.ats_console.specs.Print.{lines, lines_of_catalog, lines_of_documents};
 ghost use Rattle.ats_top.specs.Asked.{IsReplyVerified};
-ghost use Rattle.ats_auditors.specs.Collided.{lines_of_proof_collision, lines_of_growth_collision, lines_of_text_collision};
+ghost use Rattle.ats_auditors.specs.Collided.{lines_of_proof_collision, lines_of_catalog_collision, lines_of_growth_collision, lines_of_text_collision};
 ghost use Rattle.ats_checkers.specs.Commands.{IsBothChecked, IsCatalogChecked, IsFetched, IsGrowthChecked, IsVerified};
 ghost use Rattle.ats_top.specs.Conversation.{Converses};
 ghost use Rattle.ats_console.specs.Kinds.{line_of_grown, printed_text};
 ghost use Rattle.ats_top.specs.Outside.{Outside};
 ghost use Rattle.ats_top.specs.Run.{Ran};
 ghost use Rattle.ats_top.specs.Serving.{Took};
-ghost use Rattle.ats_top.specs.Theorem.{AuditsProof, AuditsText, AuditsBoth, AuditsGrowth, IsCaught, HasCatalogCollision};
+ghost use Rattle.ats_top.specs.Theorem.{AuditsProof, AuditsText, AuditsBoth, AuditsGrowth, AuditsCatalog, IsCaught};
 
 use ats_hash::HashKind;
 
@@ -36,8 +36,9 @@ use ats_hash::HashKind;
 /// with equal digests, and each `audit` of the accepted bytes over an index of that archive prints them with status 5,
 /// unless it reports that memory ran out, or the shelf or the sink fails. The same holds of the rows of `ask`; of the text
 /// that `fetch` prints, which is that of document DOC; of the documents that `both` prints, which are all that have every
-/// term of the query; and of the two numbers of `growth`, under whose roots no text was withdrawn or changed. The accepted
-/// bytes are those of the named file before the run, if the shelf reports its files; for `ask` they are those that arrived.
+/// term of the query; of the two numbers of `growth`, under whose roots no text was withdrawn or changed; and of the rows of
+/// `catalog`, for every catalog with the root, whose indexes `audit-catalog` takes from a list. The accepted bytes are those
+/// of the named file before the run, if the shelf reports its files; for `ask` they are those that arrived.
 pub fn printed_answers_are_right<H: HashKind>()
     ensures verify { (root r query proof digest : List ℕ) (n : ℕ) (before now : Outside)
         → root_word root ≡ Some digest → number_of r ≡ Some n
@@ -90,12 +91,13 @@ pub fn printed_answers_are_right<H: HashKind>()
         × (bytes : List ℕ) × IsFile before.shelf.files file (2 ^ 28) bytes
         × (rows : List CatalogRow) × Took before.sink now.sink (lines_of_catalog rows)
         × ((catalog : List Archive) → IsCatalog catalog → catalog_root H.hash catalog ≡ digest
-        → AreRightIn catalog terms n rows ⊎ HasCatalogCollision H.hash catalog terms bytes) }
+        → AreRightIn catalog terms n rows
+        ⊎ IsCaught H.hash lines_of_catalog_collision (AuditsCatalog H.hash catalog n query bytes)) }
 {}
 
 /// If one of these commands ends with status 0, all that its check says holds of the bytes that it accepted, and the sink
-/// took the text of this. So what an audit by `ats_audit`, `ats_fetch`, `ats_both` or `ats_growth` says of these bytes is
-/// known without an index's file.
+/// took the text of this. So what an audit by `ats_audit`, `ats_fetch`, `ats_both`, `ats_growth` or `ats_catalog_audit` says
+/// of these bytes is known without an index's file.
 pub fn accepted_answers_are_printed<H: HashKind>()
     ensures verify { (root r query proof digest : List ℕ) (n : ℕ) (before now : Outside)
         → root_word root ≡ Some digest → number_of r ≡ Some n

@@ -1,7 +1,7 @@
-use Rattle.std.proofs.Common.{rules, arith, refl, inl, inr, List, [], ◌∷◌, sym, subst, ℕ, length, ◌≡◌, ◌+◌}
+use Rattle.std.proofs.Common.{rules, arith, refl, inl, inr, sym, subst, ℕ, length, ◌≡◌, ◌+◌}
 use Rattle.std.proofs.lemmas.Bool.{eqb-true}
 use Rattle.ats_console.specs.Lists.{lines_of, IsBadLine}
-use Rattle.ats_console.proofs.Public.{read_more, as_many_read}
+use Rattle.ats_console.proofs.Public.{read_more, as_many_read, no_lines}
 use Rattle.ats_auditors.specs.Listed.{IsListed}
 use Rattle.ats_auditors.specs.Inner.Sweeping.{IsEntry}
 use Rattle.ats_auditors.proofs.ListEntries.{next_line_bad}
@@ -34,10 +34,6 @@ returns-clause-few c =
     let none : length c.lines.rest.now ≡ 0 = eqb-true _ 0 (sym (c.lines-test.ensures)) in
     let long = as_many_read IsEntry c.args.bytes.now c.lines.rest.now c.lines.entries.items c.lines.invariant none in
     omega (arith, long, c.count_lines-count.ensures, c.if-count-gt-LINES.false)
-
-no_lines : (lines : List (List ℕ)) → length lines ≡ 0 → lines ≡ []
-no_lines [] none = refl
-no_lines (l ∷ lines) none = absurd (omega (arith, none))
 
 pub returns-then-count-eq0-clause-stop : goal.returns-then-count-eq0-clause-stop
 returns-then-count-eq0-clause-stop c = rw c.bad_line.ensures (inr (1, inl (no_lines _ (omega (arith, c.count_lines-count.ensures, c.if-count-eq0.true)), refl), refl))

@@ -3,6 +3,7 @@ use Rattle.ats_plan.proofs.Public.{leads_none}
 use Rattle.ats_console.specs.Words.{CatalogWords}
 use Rattle.ats_console.specs.Kinds.{catalog_kind}
 use Rattle.ats_console.proofs.Public.{passed, rows_stops, query_stops, leads_ranking, leads_bytes, at_bytes, still_bytes, rows_of_range, asks_of, check_stops, check_end}
+use Rattle.ats_catalog_audit.proofs.Public.{told}
 use Rattle.ats_checkers.specs.Commands.{IsCatalogChecked}
 use Rattle.ats_checkers.proofs.catalogs.catalog.Goals as goal
 
@@ -44,6 +45,7 @@ returns-clause-ok g c =
         asked = c.in_ok-asked.ensures.ok;
         checked = record { bytes = bytes; file = still_bytes c.in_ok-bytes.ensures.ok; value = is.1.shards; accepted = is.1.accepted };
         headline = is.1.headline;
+        audited = told H g.H.HashKind.sized words.root query words.r bytes is.1.shards is.1.headline is.1.accepted;
         rows = is.0;
         answer = is.1.answer;
         printed = is.2;

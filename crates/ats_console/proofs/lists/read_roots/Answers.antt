@@ -1,20 +1,16 @@
-use Rattle.std.proofs.Common.{rules, arith, refl, inl, inr, List, [], ◌∷◌, sym, ◌∙◌, subst, ℕ, length, ◌≡◌, ◌+◌}
+use Rattle.std.proofs.Common.{rules, arith, refl, inl, inr, sym, ◌∙◌, subst, ℕ, length, ◌≡◌, ◌+◌}
 use Rattle.std.proofs.lemmas.Bool.{eqb-true}
 use Rattle.ats_console.specs.Lists.{lines_of, IsBadLine}
 use Rattle.ats_console.specs.Roots.{SpellsRoot}
-use Rattle.ats_console.proofs.ListReading.{next_bad, read_more, all_read, as_many_read}
+use Rattle.ats_console.proofs.ListReading.{next_bad, read_more, all_read, as_many_read, no_lines}
 use Rattle.ats_console.proofs.lists.read_roots.Goals as goal
-
-no_lines : (lines : List (List ℕ)) → length lines ≡ 0 → lines ≡ []
-no_lines [] none = refl
-no_lines (l ∷ lines) none = absurd (omega (arith, none))
 
 pub returns-then-count-eq0-clause-stop : goal.returns-then-count-eq0-clause-stop
 returns-then-count-eq0-clause-stop c =
     rw c.bad_line.ensures (inr (1, inl (no_lines _ (omega (arith, c.count_lines-count.ensures, c.if-count-eq0.true)), refl), refl))
 
-pub returns-then-count-gt-ROOTS-clause-stop : goal.returns-then-count-gt-ROOTS-clause-stop
-returns-then-count-gt-ROOTS-clause-stop c = rw c.bad_line-then-count-gt-ROOTS.ensures (inr (4097, search rules, refl))
+pub returns-then-count-gt-SHARDS-clause-stop : goal.returns-then-count-gt-SHARDS-clause-stop
+returns-then-count-gt-SHARDS-clause-stop c = rw c.bad_line-then-count-gt-SHARDS.ensures (inr (4097, search rules, refl))
 
 pub returns-in_default-clause-stop : goal.returns-in_default-clause-stop
 returns-in_default-clause-stop c =
@@ -22,7 +18,7 @@ returns-in_default-clause-stop c =
       c.lines.roots.len + 1,
       subst (λ (n : ℕ). IsBadLine SpellsRoot 4096 (lines_of c.args.bytes.now) (n + 1)) (sym c.lines.roots.ok.0)
           (next_bad SpellsRoot 4096 c.args.bytes.now c.lines.rest.now c.first_line.result.0.now c.first_line.result.1.now c.lines.roots.items c.lines.invariant
-          c.first_line.ensures.lines (omega (arith, c.count_lines-count.ensures, c.if-count-gt-ROOTS.false))
+          c.first_line.ensures.lines (omega (arith, c.count_lines-count.ensures, c.if-count-gt-SHARDS.false))
           (λ root spells. let clash = sym c.in_default.is ∙ c.root_digits.ensures ∙ spells in absurd (cc))),
       refl,
     ))
@@ -39,6 +35,6 @@ returns-clause-ok c =
     let long = as_many_read SpellsRoot c.args.bytes.now c.lines.rest.now c.lines.roots.items c.lines.invariant none in
     record {
       some = omega (arith, long, c.count_lines-count.ensures, c.if-count-eq0.false);
-      few = omega (arith, long, c.count_lines-count.ensures, c.if-count-gt-ROOTS.false);
+      few = omega (arith, long, c.count_lines-count.ensures, c.if-count-gt-SHARDS.false);
       each = all_read SpellsRoot c.args.bytes.now c.lines.rest.now c.lines.roots.items c.lines.invariant none;
     }

@@ -1,10 +1,12 @@
-use Rattle.std.proofs.Common.{[], ◌∷◌, codes, subst}
+use Rattle.std.proofs.Common.{◌⊎◌, List, [], ◌∷◌, IsSome, codes, sym, subst}
 use Rattle.ats_client.specs.Rows.{rows_of}
 use Rattle.ats_conjunction.specs.Documents.{documents_shown}
+use Rattle.ats_catalog.specs.Headline.{AreRightIn}
+use Rattle.ats_catalog.specs.Strings.{catalog_collision}
+use Rattle.ats_catalog.specs.declared.row.CatalogRow.{CatalogRow}
 use Rattle.ats_console.specs.Words.{verify_words, fetch_words, both_words, growth_words, catalog_words}
 use Rattle.ats_top.specs.Serving.{Took}
-use Rattle.ats_top.proofs.CatalogPrinted.{right_or_collides}
-use Rattle.ats_top.proofs.Caught.{or_caught, proof_caught, text_caught, both_caught, growth_caught}
+use Rattle.ats_top.proofs.Caught.{or_caught, proof_caught, text_caught, both_caught, growth_caught, catalog_caught}
 use Rattle.ats_top.proofs.Printed.{verified, replied, fetched, both_checked, growth_checked, catalog_checked}
 use Rattle.ats_top.proofs.SaidWords.{verify_said, ask_said, fetch_said, both_said, growth_said, catalog_said}
 use Rattle.ats_top.proofs.theorem.printed_answers_are_right.Goals as goal
@@ -104,5 +106,6 @@ returns-clause-catalog g c root r query file digest n before now is_root is_rows
       own.file,
       is.rows,
       subst (Took before.sink now.sink) is.printed done.2,
-      λ catalog are same. right_or_collides H catalog is.query n own.value own.bytes is.rows own.accepted.says is.answer (is.headline catalog are same),
+      λ catalog are same. or_caught (subst (λ (rows : List CatalogRow). AreRightIn catalog is.query n rows ⊎ IsSome (catalog_collision H catalog is.query own.value is.answer.proofs)) (sym is.answer.are) (is.headline catalog are same is.answer.proofs is.answer.say))
+          (catalog_caught H digest own.bytes catalog same n query is.query (record { frames = own.value; proofs = is.answer.proofs }) is.asks is.asked (record { accepted = own.accepted; say = is.answer.say })),
     )
