@@ -20,8 +20,9 @@ HERE = os.path.dirname(os.path.abspath(__file__))
 TOP = os.path.dirname(HERE)
 CRATE = os.path.join(TOP, "crates", "ats_reader")
 sys.dont_write_bytecode = True
-sys.path.insert(0, HERE)
+sys.path[:0] = [HERE, os.path.join(TOP, "tests")]
 from ats_reader import CCatalogRow, CRow, CTerm, Fault, Reader, Verdict, printed
+from trying import Tally
 
 Entry = dict[str, Any]  # what a file of vectors has of one of them
 Parts = list[list[Any]]  # long bytes: see vectors/README.md
@@ -304,45 +305,41 @@ def compare(made: dict[str, list[str]], folder: str) -> None:
             print(f"{name}: {min(times) * 1e3:.0f} ms for a proof of {len(file):,} bytes")
 
 
-class Count:
-    def __init__(self) -> None:
-        self.passed, self.failed = {}, 0
-
-    def see(self, name: str, right: bool, about: object) -> None:
-        if right:
-            self.passed[name] = self.passed.get(name, 0) + 1
-        else:
-            self.failed += 1
-            print(f"failed: {name}: {about}")
-
-
-def play(count: Count, name: str, call: Call, many: bool) -> None:
-    """Plays all vectors with a caller; a program is called for several at a time."""
+def play(name: str, call: Call, many: bool) -> list[Tally]:
+    """Plays all vectors with a caller, and counts each file; a program is called for several at a time."""
+    tallies: dict[str, Tally] = {}
     with concurrent.futures.ThreadPoolExecutor(os.cpu_count() if many else 1) as pool:
         # A word that a program is called with has no byte 0.
         all_cases = [it for it in cases() if not (many and "\0" in "".join(it[1]))]
         got = pool.map(lambda it: call(it[1], it[2]), all_cases)
         for (file, words, _, status, text), found in zip(all_cases, got):
             about = f"{words[-1][:40]!r} {text[:60]} {found[0]} {found[1][:60]}"
-            count.see(f"{file} by {name}", found == (status, text), about)
+            tallies.setdefault(file, Tally(f"{file} by {name}")).check(about, found == (status, text))
+    return list(tallies.values())
+
+
+def play_rooms(shared: str) -> Tally:
+    tally = Tally("rooms")
+    for i, right in enumerate(rooms(shared)):
+        tally.check(str(i), right)
+    return tally
 
 
 def main(archive: Optional[str] = None) -> int:
-    archive, count = archive or proved(), Count()
+    archive, every = archive or proved(), Tally()
     with tempfile.TemporaryDirectory() as folder:
         check, shared = build(archive, folder)
         reader = Reader(shared)
-        play(count, "python", lambda words, file: by_python(reader, folder, words, file), False)
+        tallies = play("python", lambda words, file: by_python(reader, folder, words, file), False)
         made = callers(check, folder)
         for name, program in made.items():
-            play(count, name, lambda words, file: by_program(program, folder, words, file), True)
+            tallies += play(name, lambda words, file: by_program(program, folder, words, file), True)
         compare(made, folder)
-        for i, right in enumerate(rooms(shared)):
-            count.see("rooms", right, i)
-    for name, number in count.passed.items():
-        print(f"{name}: {number}")
-    print(f"{sum(count.passed.values())} passed, {count.failed} failed")
-    return 1 if count.failed else 0
+        tallies.append(play_rooms(shared))
+    for tally in tallies:
+        print(f"{tally.case}: {tally.passed}")
+        every.add(tally)
+    return every.conclude()
 
 
 if __name__ == "__main__":
