@@ -39,7 +39,8 @@ export function answering(begin, answer) {
     stoppers.set(id, stopper);
     try {
       const got = await answer(call, words, { signal: stopper.signal, progress: reporting(id) });
-      postMessage({ id, got }, /** @type {any} */ (got instanceof Uint8Array ? [got.buffer] : []));
+      const given = [got].flat().filter(it => it instanceof Uint8Array).map(({ buffer }) => buffer);
+      postMessage({ id, got }, /** @type {any} */ (given));
     } catch (fault) {
       postMessage({ id, fault: plain(fault) });
     } finally {

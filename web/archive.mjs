@@ -2,10 +2,10 @@
 // two strings have one SHA-256 digest. Only the places of pages, lists and texts are the host's word, and a wrong place
 // gives bytes that do not fit.
 
-import { Fields, compareBytes, hex, same } from './bytes.mjs';
+import { DIGEST, Fields, compareBytes, hex, same } from './bytes.mjs';
 import { hostFault } from './fault.mjs';
 import { InvertedList, sizeOfList } from './list.mjs';
-import { DIGEST, sha256 } from './sha256.mjs';
+import { sha256 } from './sha256.mjs';
 import { KnownTree, besides, leafDigest } from './tree.mjs';
 
 const LAYOUT = 1, HEADER = 105, HEADER_TAG = 4, MOST_HEAD = 2 ** 16;
@@ -106,7 +106,7 @@ export class Archive {
   /** @param {Fields} fields */
   #readSparseIndex(fields) {
     for (let start = 0, i = 0; i << this.#pageShift < this.leaves; i++) {
-      const size = fields.u32(), first = fields.take(fields.u8()).slice();
+      const size = fields.u32(), first = fields.take(fields.u8());
       this.#pages.push({ first, start, end: start + size });
       start += size;
     }

@@ -1,12 +1,13 @@
 // Questions: what a source answers to them, what the check says of that, and what texts show. Not proved.
 
-import { bytesOfHex } from './bytes.mjs';
+import { bytesOfHex, hex } from './bytes.mjs';
+import { catalogFile, proofsIn } from './catalog.mjs';
 import { Fault } from './fault.mjs';
+import { isCatalog, nameOf, placeOf } from './places.mjs';
 import { reasonOf } from './sentences.mjs';
 import { shownBy } from './shown.mjs';
 
 /**
- * @typedef {import('./check.mjs').Row} Row
  * @typedef {import('./calls.mjs').How} How
  * @typedef {import('./calls.mjs').Calls} Calls
  *
@@ -26,22 +27,29 @@ import { shownBy } from './shown.mjs';
  * @property {string[][]} marked what is marked in texts: these phrases, and the words outside of them
  *
  * @typedef {object} Found by the page, in texts
- * @property {number[]} docs that have the phrases
+ * @property {string[]} docs that have the phrases
  * @property {number} read how many texts were looked into
  * @property {number} failed how many of them did not come, or were refused
  * @property {string} stopped why no more were looked into, or empty
  *
- * @typedef {Question & { words: Words, proof: Uint8Array, got: any, ms: number, all: number, having: number[], rows:
- *   Row[],
- *   docs: number[], found?: Found, texts: Map<number, Uint8Array>, titles: boolean, from?: SavedFrom }} Answer
+ * A question with the roots of its archives, and what came for it: one proof of the best, or one of all documents from
+ * each archive; and the files of texts, by the names of places.mjs.
+ * @typedef {Question & { shards: string[], proofs: Uint8Array[], texts: Map<string, Uint8Array>, titles: boolean,
+ *   from?: SavedFrom }} Proved
+ * @typedef {Proved & { words: Words, got: any, ms: number, all: number, having: number[], rows: { lower: bigint, upper:
+ *   bigint }[], docs: string[], found?: Found }} Answer
  * @typedef {{ name: string, date: string, root: string }} SavedFrom the file that was opened
  */
 
 const MOST_TEXTS = 10000, MOST_BYTES = 2 ** 26, AT_ONCE = 6;
+const OF_SHARD = 64; // added to the reason of a proof that is one of a catalog's
+const NOTHING = new Uint8Array(0), OTHER_ROOT = { status: 1, reason: 16, line: '', ms: 0 };
 
 /** Asks a source, and has the checks look at what comes. */
 export class Asking {
   #checks; #source;
+  /** @type {Map<string, string[]>} */
+  #shards = new Map();
 
   /**
    * @param {Calls} checks
@@ -53,14 +61,59 @@ export class Asking {
   }
 
   /**
-   * What the check says of a proof for a question.
-   * @param {Question} question
-   * @param {Uint8Array} proof
+   * The roots of the archives under a root, which the check has compared with it.
+   * @param {string} root
    * @param {AbortSignal} [signal]
    */
-  checked({ way, root, query, r }, proof, signal) {
-    return way === 'all' ? this.#checks.call('both', [proof, bytesOfHex(root), query], { signal })
-      : this.#checks.call('check', [proof, bytesOfHex(root), query, r], { signal });
+  async shards(root, signal) {
+    const found = this.#shards.get(root) ?? await this.#source.roots({ root }, { signal });
+    if (!await this.#isOf(root, found, signal)) {
+      throw new Fault('wrong', 'host: the roots of the archives: of another catalog',
+        { said: 'The host’s list of archives is not this catalog’s. Ask another host, and tell the owner.' });
+    }
+    this.#shards.set(root, found);
+    return found;
+  }
+
+  /**
+   * @param {string} root
+   * @returns {Promise<{ root: string, name: string, titles: boolean } | undefined>} the newest one that is published
+   */
+  newest(root) { return this.#source.newest({ root }).catch(() => undefined); }
+
+  /** Whether these are the roots of the archives under a root. */
+  async #isOf(root, shards, signal) {
+    if (!isCatalog({ root, shards })) return true;
+    const got = await this.#checks.call('catalogRoot', [shards.map(bytesOfHex)], { signal });
+    return got.status === 0 && hex(got.root) === root;
+  }
+
+  /**
+   * What the check says of the proofs for a question: rows or documents by the names of places.mjs, and if it refuses
+   * the proof of one archive of several, which one.
+   * @param {Question & { shards: string[] }} question
+   * @param {Uint8Array[]} proofs
+   * @param {AbortSignal} [signal]
+   */
+  async checked(question, proofs, signal) {
+    const { way, root, query, r } = question, isMany = isCatalog(question), call = isMany ? 'catalog' : 'check';
+    if (way === 'all') return this.#checkedAll(question, proofs, signal);
+    const got = await this.#checks.call(call, [proofs[0], bytesOfHex(root), query, r], { signal });
+    if (isMany && got.reason >= OF_SHARD) return { ...got, reason: got.reason - OF_SHARD, shard: got.count };
+    return { ...got, docs: got.rows.map(({ shard, doc }) => nameOf(shard, doc)) };
+  }
+
+  /** The same of all documents with every word: of each archive by itself. */
+  async #checkedAll(question, proofs, signal) {
+    const { shards, query } = question, isMany = isCatalog(question), docs = [];
+    let ms = 0;
+    for (const [i, shard] of shards.entries()) {
+      const got = await this.#checks.call('both', [proofs[i] ?? NOTHING, bytesOfHex(shard), query], { signal });
+      ms += got.ms;
+      if (got.status !== 0) return { ...got, shard: isMany ? i : undefined };
+      docs.push(...got.docs.map(doc => nameOf(isMany ? i : undefined, doc)));
+    }
+    return { status: 0, docs, rows: [], ms };
   }
 
   /**
@@ -70,8 +123,33 @@ export class Asking {
    * @param {AbortSignal} signal
    */
   async beyondLimits(question, signal) {
-    const got = await this.checked(question, new Uint8Array(0), signal);
+    const got = await this.checked({ ...question, shards: [question.root] }, [NOTHING], signal);
     return got.status === 1 ? undefined : got;
+  }
+
+  /**
+   * What the check says of the growth of an archive: both numbers of documents, or the verdict that refuses it, or that
+   * none leads there.
+   * @param {string} root
+   * @param {string} offered
+   * @param {AbortSignal} [signal]
+   * @returns {Promise<import('./roots.mjs').Relation>}
+   */
+  async growth(root, offered, signal) {
+    let at = root, before, after;
+    try {
+      for (const { from, to, file } of await this.#source.growth({ from: root, to: offered }, { signal })) {
+        if (from !== at) return { kind: 'other' };
+        const got = await this.#checks.call('growth', [file, bytesOfHex(from), bytesOfHex(to)], { signal });
+        if (got.status !== 0) return { kind: 'refused', got };
+        before ??= got.grown.old;
+        after = got.grown.new;
+        at = to;
+      }
+    } catch (fault) {
+      if (!(fault instanceof Fault) || fault.word !== 'missing') throw fault;
+    }
+    return at === offered && before !== undefined ? { kind: 'grown', before, after } : { kind: 'other' };
   }
 
   /**
@@ -102,22 +180,26 @@ export class Asking {
    */
   async answer(question, words, how) {
     const { root, r, way } = question, { terms } = words, start = performance.now();
-    const proof =
-      await (way === 'all' ? this.#source.both({ root, terms }, how) : this.#source.ranked({ root, terms, r }, how));
-    return this.judged(
-      {...question, words, proof, texts: new Map(), titles: false, ms: performance.now() - start }, how.signal);
+    const shards = await this.shards(root, how.signal), isBest = way === 'best', asked = { roots: shards, terms, r };
+    const found = await (isBest ? this.#source.ranked(asked, how) : this.#source.both(asked, how));
+    const proofs = isBest && isCatalog({ root, shards }) ? [catalogFile(shards, found)] : found;
+    const ms = performance.now() - start;
+    return this.judged({ ...question, words, shards, proofs, texts: new Map(), titles: false, ms }, how.signal);
   }
 
   /**
-   * @param {object} asked a question with its words, the proof, and texts that are there already
+   * @param {Proved & { words: Words, ms: number }} asked
    * @param {AbortSignal} [signal]
    * @returns {Promise<Answer>}
    */
   async judged(asked, signal) {
-    const got = await this.checked(asked, asked.proof, signal);
-    if (got.status !== 0) return { ...asked, got, rows: [], docs: [], all: 0, having: [] };
-    const { documents: all, having } = shownBy(asked.proof), rows = got.rows ?? [];
-    return { ...asked, got, rows, docs: got.docs ?? rows.map(({ doc }) => Number(doc)), all, having };
+    const { root, shards, way, proofs } = asked, none = { rows: [], docs: [], all: 0, having: [] };
+    const got = await this.#isOf(root, shards, signal) ? await this.checked(asked, proofs, signal) : OTHER_ROOT;
+    if (got.status !== 0) return { ...asked, ...none, got };
+    const shown = (way === 'best' && isCatalog(asked) ? proofsIn(proofs[0]) : proofs).map(shownBy);
+    const sum = counts => counts.reduce((all, count) => all + count, 0);
+    const having = asked.words.all.map((_, i) => sum(shown.map(it => it.having[i])));
+    return { ...asked, got, rows: got.rows, docs: got.docs, all: sum(shown.map(it => it.documents)), having };
   }
 
   /**
@@ -125,24 +207,27 @@ export class Asking {
    * kept.
    * @param {Answer} answer
    * @param {string} call
-   * @param {number} doc
+   * @param {string} name of the document
    * @param {unknown[]} words
    * @param {AbortSignal} signal
-   * @returns {Promise<{ got: any, read: any }>}
+   * @returns {Promise<{ got: any, read: any, size: number }>}
    */
-  async read(answer, call, doc, words, signal) {
-    const kept = answer.texts.get(doc), file = kept ?? await this.#text(answer, doc, signal);
-    const it = await this.#checks.call(call, [file, bytesOfHex(answer.root), doc, ...words], { signal });
-    if (it.got.status === 0 && call !== 'holds') answer.texts.set(doc, file);
-    return it;
+  async read(answer, call, name, words, signal) {
+    const { shards, texts } = answer, { shard, doc } = placeOf(name);
+    const file = texts.get(name) ?? await this.#text(answer, shards[shard], doc, signal);
+    const it = await this.#checks.call(call, [file, bytesOfHex(shards[shard]), doc, ...words], { signal });
+    if (it.got.status === 0 && call !== 'holds') texts.set(name, file);
+    return { ...it, size: file.length };
   }
 
   /**
+   * The file of a text of an archive.
    * @param {Answer} answer
+   * @param {string} root
    * @param {number} doc
    * @param {AbortSignal} signal
    */
-  async #text({ root, from }, doc, signal) {
+  async #text({ from }, root, doc, signal) {
     if (from) throw new Fault('missing', 'no text in the file', { said: 'The saved file does not have it.' });
     return this.#source.text({ root, doc }, { signal });
   }
@@ -154,7 +239,7 @@ export class Asking {
    * @returns {Promise<Found>}
    */
   async find(answer, { signal, progress }) {
-    const found = { docs: /** @type {number[]} */ ([]), read: 0, failed: 0, stopped: '' },
+    const found = { docs: /** @type {string[]} */ ([]), read: 0, failed: 0, stopped: '' },
           left = answer.docs.slice(0, MOST_TEXTS);
     if (left.length < answer.docs.length)
       found.stopped = `This page looks into ${MOST_TEXTS.toLocaleString('en-US')} texts at most.`;
@@ -170,19 +255,17 @@ export class Asking {
     await Promise.all(Array.from({ length: AT_ONCE }, run));
     if (bytes >= MOST_BYTES && found.read < answer.docs.length)
       found.stopped = 'This page looks into 64 MiB of texts at most.';
-    found.docs.sort((a, b) => a - b);
-    return found;
+    const have = new Set(found.docs);
+    return { ...found, docs: answer.docs.filter(doc => have.has(doc)) };
   }
 
   /** Looks into one text, and returns how many bytes came for it. */
   async #looked(answer, doc, found, signal) {
     try {
-      const file = await this.#text(answer, doc, signal),
-            words = [file, bytesOfHex(answer.root), doc, answer.words.together];
-      const { got, read } = await this.#checks.call('holds', words, { signal });
+      const { got, read, size } = await this.read(answer, 'holds', doc, [answer.words.together], signal);
       if (read) found.docs.push(doc);
       if (got.status !== 0) found.failed++;
-      return file.length;
+      return size;
     } catch (fault) {
       if (!(fault instanceof Fault)) throw fault;
       found.failed++;

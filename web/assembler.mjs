@@ -1,13 +1,14 @@
-// Answers questions from the folder of an archive on one host or several, as the program would: the bytes of a proof,
-// or a Fault.
+// Answers questions from the folders of an archive, or of those of a catalog, on one host or several, as the program
+// would: the bytes of proofs, or a Fault.
 
 import { Archive } from './archive.mjs';
 import { bytesOfHex } from './bytes.mjs';
 import { MemoryCache } from './cache.mjs';
 import { Fault } from './fault.mjs';
-import * as proofs from './proofs.mjs';
-import { newest, way } from './publications.mjs';
+import { both, ranked, text } from './proofs.mjs';
+import { newest, rootsOf, way } from './publications.mjs';
 import { LIMITS, Question, Reader } from './question.mjs';
+import { ofShards } from './shards.mjs';
 
 /**
  * @typedef {import('./question.mjs').Host} Host
@@ -32,23 +33,39 @@ export class Assembler {
   }
 
   /**
-   * The TNRA proof of the best r documents. `terms` are those of the query, in byte order.
-   * @param {{ root: string, terms: Term[], r: number }} asked
+   * The roots of the archives under a root: those of a catalog, or the root itself.
+   * @param {{ root: string }} asked
    * @param {How} [how]
+   * @returns {Promise<string[]>}
    */
-  ranked({ root, terms, r }, how) {
-    return this.#asked(how, question => this.#fromArchive(root, question, archive => proofs.ranked(archive, terms, r)));
+  roots({ root }, how) {
+    return this.#asked(how, async question => {
+      const own = () => this.#fromArchives([root], question, async () => [root]);
+      const listed = () => this.#fromHosts(host => rootsOf(host, root, question));
+      return ifMissing(own, () => ifMissing(listed, async () => [root]));
+    });
   }
 
   /**
-   * The proof of all documents with every term.
-   * @param {{ root: string, terms: Term[] }} asked
+   * From each of these archives the TNRA proof of the best r documents of all. `terms` are those of the query, in byte
+   * order.
+   * @param {{ roots: string[], terms: Term[], r: number }} asked
    * @param {How} [how]
    */
-  both({ root, terms }, how) {
+  ranked({ roots, terms, r }, how) {
+    return this.#asked(
+      how, question => this.#fromArchives(roots, question, archives => ranked(archives, terms, r)));
+  }
+
+  /**
+   * From each of these archives the proof of all its documents with every term.
+   * @param {{ roots: string[], terms: Term[] }} asked
+   * @param {How} [how]
+   */
+  both({ roots, terms }, how) {
     const most = this.#limits.documents;
     return this.#asked(
-      how, question => this.#fromArchive(root, question, archive => proofs.both(archive, terms, most)));
+      how, question => this.#fromArchives(roots, question, archives => both(archives, terms, most)));
   }
 
   /**
@@ -57,7 +74,7 @@ export class Assembler {
    * @param {How} [how]
    */
   text({ root, doc }, how) {
-    return this.#asked(how, question => this.#fromArchive(root, question, archive => proofs.text(archive, doc)));
+    return this.#asked(how, question => this.#fromArchives([root], question, ([own]) => text(own, doc)));
   }
 
   /**
@@ -91,13 +108,15 @@ export class Assembler {
 
   /**
    * @template Made
-   * @param {string} root
+   * @param {string[]} roots
    * @param {Question} question
-   * @param {(archive: Archive) => Promise<Made>} make
+   * @param {(archives: Archive[]) => Promise<Made>} make
    */
-  #fromArchive(root, question, make) {
-    const made = async (host, isAgain) =>
-      make(await Archive.open(new Reader(host, this.#cache, question, isAgain), bytesOfHex(root)));
+  #fromArchives(roots, question, make) {
+    const made = async (host, isAgain) => {
+      const reader = new Reader(host, this.#cache, question, isAgain);
+      return make(await ofShards(roots, root => Archive.open(reader, bytesOfHex(root))));
+    };
     return this.#fromHosts(async host => {
       try {
         return await made(host, false);
@@ -105,7 +124,7 @@ export class Assembler {
         if (!(fault instanceof Fault) || !MISFITS.includes(fault.word)) throw fault;
       }
       // A cache may have kept what once did not fit, or places in a head or a page that another host gave may be wrong.
-      await this.#cache.forget(root);
+      await Promise.all(roots.map(root => this.#cache.forget(root)));
       host.forget();
       return made(host, true);
     });
@@ -133,3 +152,13 @@ export class Assembler {
     throw last;
   }
 }
+
+/**
+ * @template Made
+ * @param {() => Promise<Made>} first
+ * @param {() => Promise<Made>} otherwise what is done if that is not there
+ */
+const ifMissing = (first, otherwise) => first().catch(fault => {
+  if (!(fault instanceof Fault) || fault.word !== 'missing') throw fault;
+  return otherwise();
+});

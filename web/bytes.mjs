@@ -2,7 +2,7 @@
 
 import { hostFault } from './fault.mjs';
 
-const DIGEST = 32;
+export const DIGEST = 32; // bytes
 
 /** @param {Uint8Array} bytes */
 export const hex = bytes => Array.from(bytes, byte => byte.toString(16).padStart(2, '0')).join('');
@@ -55,16 +55,18 @@ export class Fields {
     this.at = 0;
   }
 
-  /** @param {number} size */
-  take(size) {
+  /** Where a field of this size begins, which is then behind. */
+  #past(size) {
     if (size > this.bytes.length - this.at) throw hostFault('cut', this.#file, `ends in a field of ${size} bytes`);
     this.at += size;
-    return this.bytes.subarray(this.at - size, this.at);
+    return this.at - size;
   }
 
-  u8() { return this.take(1)[0]; }
-  u16() { return this.#view.getUint16(this.take(2).byteOffset - this.bytes.byteOffset); }
-  u32() { return this.#view.getUint32(this.take(4).byteOffset - this.bytes.byteOffset); }
+  /** @param {number} size */
+  take(size) { return this.bytes.subarray(this.#past(size), this.at); }
+  u8() { return this.bytes[this.#past(1)]; }
+  u16() { return this.#view.getUint16(this.#past(2)); }
+  u32() { return this.#view.getUint32(this.#past(4)); }
 
   /** @param {number} count */
   digests(count) { return Array.from({ length: count }, () => this.take(DIGEST)); }

@@ -1,20 +1,20 @@
 // An inverted list in blocks, of which the first ones are read. Each block is bound by the digest in the one before it,
 // and the first by that in the dictionary.
 
-import { same } from './bytes.mjs';
+import { DIGEST, same } from './bytes.mjs';
 import { hostFault } from './fault.mjs';
-import { DIGEST, ENTRIES, rootOfEntries, sha256 } from './sha256.mjs';
+import { ENTRIES, rootOfEntries, sha256 } from './sha256.mjs';
 import { KnownTree, leafDigest } from './tree.mjs';
 
-const BLOCK = ENTRIES, ENTRY = 6; // bytes
-const ROOM = BLOCK * ENTRY + DIGEST; // of a block that another one follows
+const ENTRY = 6; // bytes
+const ROOM = ENTRIES * ENTRY + DIGEST; // of a block that another one follows
 const CHAIN_TAG = 3, NO_DIGEST = new Uint8Array(DIGEST);
 
 /**
  * Bytes of a list with so many entries.
  * @param {number} entries
  */
-export const sizeOfList = entries => ENTRY * entries + DIGEST * Math.max(Math.ceil(entries / BLOCK) - 1, 0);
+export const sizeOfList = entries => ENTRY * entries + DIGEST * Math.max(Math.ceil(entries / ENTRIES) - 1, 0);
 
 export class InvertedList {
   #archive; #at;
@@ -45,8 +45,8 @@ export class InvertedList {
    */
   async upTo(entries) {
     if (this.whole || entries <= this.known) return;
-    const from = this.known / BLOCK * ROOM, most = sizeOfList(this.length);
-    const to = Math.min(Math.ceil(entries / BLOCK) * ROOM, most);
+    const from = this.known / ENTRIES * ROOM, most = sizeOfList(this.length);
+    const to = Math.min(Math.ceil(entries / ENTRIES) * ROOM, most);
     await this.#archive.range('lists', this.#at + from, this.#at + to, bytes => {
       for (let at = 0; at < bytes.length;) at = this.#takeBlock(bytes, at);
     });
@@ -58,11 +58,11 @@ export class InvertedList {
    * @param {number} at
    */
   #takeBlock(bytes, at) {
-    const count = Math.min(BLOCK, this.length - this.known), end = at + count * ENTRY;
+    const count = Math.min(ENTRIES, this.length - this.known), end = at + count * ENTRY;
     const isLast = this.known + count === this.length;
     const next = isLast ? NO_DIGEST : bytes.slice(end, end + DIGEST);
     if (!same(sha256(CHAIN_TAG, rootOfEntries(bytes, at, count), next), this.#chain[this.#chain.length - 1])) {
-      throw hostFault('wrong', 'lists', `block ${this.known / BLOCK}`);
+      throw hostFault('wrong', 'lists', `block ${this.known / ENTRIES}`);
     }
     for (let i = this.known; at < end; i++, at += ENTRY) {
       this.docs[i] = bytes[at] << 24 | bytes[at + 1] << 16 | bytes[at + 2] << 8 | bytes[at + 3];
@@ -86,11 +86,11 @@ export class InvertedList {
    * @param {number} shown
    */
   beside(shown) {
-    const block = Math.ceil(shown / BLOCK) - 1, start = block * BLOCK;
-    const count = Math.min(BLOCK, this.length - start);
+    const block = Math.ceil(shown / ENTRIES) - 1, start = block * ENTRIES;
+    const count = Math.min(ENTRIES, this.length - start);
     const tree = new KnownTree(count);
     tree.know(0, Array.from({ length: count }, (_, i) => leafDigest(this.#entry(start + i))));
     const own = tree.beside(Array.from({ length: shown - start }, (_, i) => i));
-    return start + BLOCK < this.length ? [...own, this.#chain[block + 1]] : own;
+    return start + ENTRIES < this.length ? [...own, this.#chain[block + 1]] : own;
   }
 }

@@ -4,13 +4,14 @@ import { Asking } from './asking.mjs';
 import { bytesOfHex, hex } from './bytes.mjs';
 import { Calls, workersOf } from './calls.mjs';
 import { Fault } from './fault.mjs';
+import { documentOf, fits, isCatalog, isName } from './places.mjs';
 import { badSign, readQuery } from './query.mjs';
 import { Results } from './results.mjs';
 import { keep, kept, leftOn, originOf, relation } from './roots.mjs';
-import { citeOf, linkOf, nameOf, opened, saved } from './saved.mjs';
+import { citeOf, fileNameOf, linkOf, opened, saved } from './saved.mjs';
 import {
-  afterRefusal, checkedOf, countingOf, dayOf, documents, duration, faultWords, grewOf, grownOf, headingOf, listed,
-  number, quoted, reasonOf,
+  afterRefusal, capital, checkedOf, countingOf, dayOf, documents, duration, faultWords, grewOf, grownOf, headingOf,
+  listed, number, quoted, reasonOf,
 } from './sentences.mjs';
 import { Source } from './source.mjs';
 import { $, announce, on, progress, say, show, sizeOf, write } from './view.mjs';
@@ -28,18 +29,17 @@ const A_PAGE = 10, MOST_ROWS = 1000;
  * @property {string} offered a newer root, which the person may take
  * @property {string} name of the archive, by its owner's word
  * @property {boolean} titles whether first lines are titles, by the owner's word
- * @property {Calls | undefined} checks
- * @property {Source | undefined} source
+ * @property {Asking | undefined} asking once the page is ready
  * @property {AbortController | undefined} stopper of what is being done
  * @property {Answer | undefined} answer whatever the verdict is
  * @property {number} shown how many results
- * @property {number | undefined} doc whose text is open, or to be opened
+ * @property {string | undefined} doc whose text is open, or to be opened
  * @property {string | undefined} host in the address as the page was opened
  */
 
 /** @type {State} */
 const state = {
-  root: '', how: '', offered: '', name: '', titles: false, checks: undefined, source: undefined, stopper: undefined,
+  root: '', how: '', offered: '', name: '', titles: false, asking: undefined, stopper: undefined,
   answer: undefined, shown: A_PAGE, doc: undefined, host: undefined,
 };
 const results =
@@ -49,7 +49,7 @@ const whole = new Whole();
 const linked = () => new URLSearchParams(location.hash.slice(1));
 const builtIn = name => /** @type {HTMLMetaElement} */ (document.querySelector(`meta[name=${name}]`)).content;
 const isRoot = text => /^[0-9a-f]{64}$/.test(text);
-const asking = () => new Asking(/** @type {Calls} */ (state.checks), /** @type {Source} */ (state.source));
+const asking = () => /** @type {Asking} */ (state.asking);
 
 // ---- the root
 
@@ -100,21 +100,22 @@ function addressed(question) {
 
 /** Asks for the newest root, and says what it is to the person's. It changes nothing by itself. */
 async function lookForNewer() {
-  const { root, source, checks } = state;
-  if (!isRoot(root) || !checks || !source) return;
-  const newest = it => it ? source.newest({ root: it }).catch(() => undefined) : undefined, { before } = kept();
-  const offered = await newest(root) ?? await newest(before[before.length - 1]?.root);
+  const { root } = state;
+  if (!isRoot(root) || !state.asking) return;
+  asking().shards(root).catch(() => {}); // so that they are there when the first question comes
+  const left = kept().before.slice(-1), newest = it => asking().newest(it);
+  const offered = await newest(root) ?? await (left.length ? newest(left[0].root) : undefined);
   if (!offered || root !== state.root) return;
   Object.assign(state, { name: builtIn('archive-name') || offered.name, titles: offered.titles });
   rootShown();
-  const found = await relation(source, checks, root, offered.root).catch(() => undefined);
+  const found = await relation(asking(), root, offered.root).catch(() => undefined);
   if (found && root === state.root) newerShown(found, offered.root);
 }
 
 const STAY = 'Stay with your root.';
 /** @type {Record<string, (found: any) => string[]>} */
 const NEWER = {
-  grown: ({ before, after }) => [grewOf(before, after), grownOf(before),
+  grown: found => [grewOf(found), grownOf(found),
     'This does not show whether what was added is the owner’s. Compare the new root with the one that the owner '
       + 'published, and use it '
       + 'if they are the same.'],
@@ -168,7 +169,7 @@ function clear() {
 }
 
 function busy(isSo) {
-  ['go', 'open'].forEach(id => { $(id).disabled = isSo || !state.checks; });
+  ['go', 'open'].forEach(id => { $(id).disabled = isSo || !state.asking; });
   $('more').disabled = isSo;
   show('stop', isSo);
   $('bar').classList.toggle('idle', !isSo);
@@ -231,12 +232,12 @@ function notesOf({ words, having, passed, phrases, found, docs }) {
 
 /** @param {Answer} answer */
 function accepted(answer) {
-  const { way, r, all, words, found, docs, root } = answer, count = docs.length;
-  verdict(true, headingOf({ way, found: count, r, all, words: words.all.length }), '');
+  const { way, r, all, words, found, docs, root } = answer, count = docs.length, archives = answer.shards.length;
+  verdict(true, headingOf({ way, found: count, r, all, words: words.all.length, archives }), '');
   const notes = notesOf(answer);
   $('notes').replaceChildren(...notes.map(note => Object.assign(document.createElement('li'), { textContent: note })));
   if (notes.length) announce(`${$('verdict').textContent.slice(2)}. ${notes.join(' ')}`);
-  write('checked', checkedOf({ way, found: count, r, root }));
+  write('checked', checkedOf({ way, found: count, r, root, archives }));
   write('counting', '');
   write('facts', factsOf(answer));
   ['how', 'tools'].forEach(id => show(id, true));
@@ -245,13 +246,16 @@ function accepted(answer) {
   if (state.doc !== undefined) openText(state.doc);
 }
 
+/** @param {Uint8Array[]} proofs */
+const lengthOf = proofs => proofs.reduce((sum, { length }) => sum + length, 0);
+
 /** @param {Answer} answer */
-function factsOf({ query, proof, got, from, ms, words }) {
+function factsOf({ query, proofs, got, from, ms, words }) {
   const came = from
     ? `From the file ${quoted(from.name)}, which says that it was saved on ${quoted(from.date.slice(0, 10))}.`
     : `The proof came in ${duration(ms)}.`;
-  return `Query ${quoted(query)}. Words searched for: ${listed(words.all)}. ${came} It has ${sizeOf(proof.length)} and `
-    + `was checked in ${duration(got.ms)}.`;
+  return `Query ${quoted(query)}. Words searched for: ${listed(words.all)}. ${came} It has `
+    + `${sizeOf(lengthOf(proofs))} and was checked in ${duration(got.ms)}.`;
 }
 
 /** @param {Answer} answer */
@@ -287,7 +291,7 @@ function question() {
 /**
  * @param {Question} asked
  * @param {AbortSignal} signal
- * @param {Map<number, Uint8Array>} [texts] that are there already
+ * @param {Map<string, Uint8Array>} [texts] that are there already
  */
 async function answerTo(asked, signal, texts = new Map()) {
   const it = asking(), limit = await it.beyondLimits(asked, signal);
@@ -318,7 +322,7 @@ async function judged(answer, signal) {
 
 /** Does something that takes time, with a way to stop it. */
 async function working(act) {
-  if (!state.checks || !$('stop').hidden) return say('Wait until the page is ready, and try again.');
+  if (!state.asking || !$('stop').hidden) return say('Wait until the page is ready, and try again.');
   const stopper = new AbortController();
   state.stopper = stopper;
   busy(true);
@@ -363,10 +367,11 @@ function more() {
 
 // ---- a whole text
 
-const docOf = link => /^(0|[1-9][0-9]{0,4})$/.test(link.get('doc') ?? '') ? Number(link.get('doc')) : undefined;
+const docOf = link => [link.get('doc')].find(it => it !== null && isName(it));
 
 async function openText(doc) {
   const answer = /** @type {Answer} */ (state.answer), { signal } = /** @type {AbortController} */ (state.stopper);
+  if (!fits(doc, answer)) return;
   state.doc = doc;
   try {
     const it = asking(), [{ got, read }, short] = await Promise.all([
@@ -378,7 +383,8 @@ async function openText(doc) {
     ['answer', 'list', 'more', 'how'].forEach(id => show(id, false));
     $('back').href = `#${linkOf(answer, { host: state.host })}`;
     whole.open(short.read.title, read);
-    write('whole-said', `Document ${doc}, all of its ${number(read.text.length)} characters. ✓ text checked.`);
+    const length = number(read.text.length);
+    write('whole-said', `${capital(documentOf(doc))}, all of its ${length} characters. ✓ text checked.`);
     write('cited', '');
   } catch (fault) {
     if (!signal.aborted) failed(fault);
@@ -402,7 +408,7 @@ async function save() {
   write('done', 'Getting the texts on this page …');
   await results.whole();
   if (answer !== state.answer) return;
-  const now = new Date(), name = nameOf(answer, dayOf(now)), count = answer.texts.size;
+  const now = new Date(), name = fileNameOf(answer, dayOf(now)), count = answer.texts.size;
   const place = URL.createObjectURL(saved(answer, now));
   Object.assign(document.createElement('a'), { href: place, download: name }).click();
   setTimeout(() => URL.revokeObjectURL(place), 60000);
@@ -432,7 +438,8 @@ function openedUnder(root) {
 }
 
 async function judgeFile(file, signal) {
-  const { way, query } = file, root = leftOn(file.root) ? file.root : state.root, asked = { ...file, root };
+  const { way, query } = file, root = leftOn(file.root) ? file.root : state.root;
+  const asked = { ...file, root, shards: isCatalog(file) ? file.shards : [root] };
   $(way === 'all' ? 'all' : 'best').checked = true;
   $('query').value = query;
   const it = asking(), limit = await it.beyondLimits(asked, signal);
@@ -441,10 +448,11 @@ async function judgeFile(file, signal) {
 }
 
 function checkUnderOther() {
-  const { from, proof, texts, way, typed, query, r, phrases, passed, titles } = /** @type {Answer} */ (state.answer);
-  const root = /** @type {import('./asking.mjs').SavedFrom} */ (from).root;
+  const answer = /** @type {Answer} */ (state.answer);
+  const root = /** @type {import('./asking.mjs').SavedFrom} */ (answer.from).root;
   useRoot(root, 'file');
-  working(signal => judgeFile({ root, from, proof, texts, way, typed, query, r, phrases, passed, titles }, signal));
+  const shards = isCatalog(answer) ? answer.shards : [root];
+  working(signal => judgeFile({ ...answer, root, shards }, signal));
 }
 
 async function copy(text, place, said) {
@@ -476,14 +484,16 @@ function cite(docs, place) {
 
 /** Turns one bit of the proof, as a host that lies could have done, and shows what the check says. */
 async function lie() {
-  const answer = /** @type {Answer} */ (state.answer), { proof, way } = answer, changed = proof.slice();
-  const at = Number(crypto.getRandomValues(new BigUint64Array(1))[0] % BigInt(8 * proof.length));
+  const answer = /** @type {Answer} */ (state.answer), { proofs, way } = answer;
+  const draw = most => Number(crypto.getRandomValues(new BigUint64Array(1))[0] % BigInt(most));
+  const one = draw(proofs.length), changed = proofs[one].slice(), at = draw(8 * changed.length);
   changed[at >> 3] ^= 1 << (at & 7);
-  const got = await asking().checked(answer, changed), isGood = got.status === 0;
+  const got = await asking().checked(answer, proofs.map((it, i) => i === one ? changed : it));
+  const isGood = got.status === 0;
   if (answer !== state.answer) return;
   $('lied').className = isGood ? 'good' : 'bad';
   write('lied-what', `The page turned one bit of the proof, as a host that lies could have done: `
-    + `bit ${at & 7} of byte ${at >> 3}, of ${proof.length} bytes (both count from 0).`);
+    + `bit ${at & 7} of byte ${at >> 3}, of ${changed.length} bytes (both count from 0).`);
   write('lied-verdict', isGood ? '✓ The changed proof is no lie' : '✗ The lie is refused');
   write('lied-said',
     isGood ? 'The check accepts it: its answer is right as well. Documents may tie, for example. Try again.'
@@ -576,8 +586,7 @@ async function start() {
   const compiled = await WebAssembly.compile(await module.arrayBuffer()).catch(() => { throw new Error(NO_BROWSER); });
   const checks = new Calls(workersOf(checking), { module: compiled }, false);
   await checks.call('version', []).catch(() => { throw new Error(NO_BROWSER); });
-  state.source = sourceOf(workersOf(assembling));
-  state.checks = checks;
+  state.asking = new Asking(checks, sourceOf(workersOf(assembling)));
   return ready;
 }
 
@@ -615,7 +624,7 @@ on('other', 'click', checkUnderOther);
 on('save', 'click', () => save().catch(failed));
 on('link', 'click', copyLink);
 on('cite', 'click', () => cite([state.doc], 'cited'));
-on('cite-all', 'click', () => cite([...$('list').children].map(it => Number(it.dataset.doc)), 'done'));
+on('cite-all', 'click', () => cite([...$('list').children].map(it => it.dataset.doc), 'done'));
 on('lie', 'click', () => lie().catch(failed));
 addEventListener('dragover', event => event.preventDefault());
 addEventListener('drop', dropped);

@@ -1,9 +1,10 @@
 // Writes what `ats prove INDEX2 tnra R QUERY`, `ats give INDEX2 DOC` and `ats prove-both INDEX2 QUERY` write, byte for
-// byte, from the folder of an archive. Nothing of it is proved, and nobody has to trust it: the proved check refuses
-// every wrong answer.
+// byte, from the folder of an archive; and of several archives the proofs of an answer of all. Nothing of it is proved,
+// and nobody has to trust it: the proved check refuses every wrong answer.
 
 import { neighbours } from './archive.mjs';
 import { Fault } from './fault.mjs';
+import { ofShards } from './shards.mjs';
 import { idf, walk } from './walk.mjs';
 
 const FORMAT = 2, TRA = 1, TNRA = 2, MOST_PROOF = 2 ** 26;
@@ -150,21 +151,38 @@ const find = (archive, terms) => Promise.all(terms.map(({ term }) => archive.fin
 const isPresent = own => own.length === 1;
 
 /**
- * The honest TNRA proof of the best r documents. `terms` are distinct, in byte order.
- * @param {Archive} archive
+ * The honest TNRA proofs of the best r documents of all these archives. `terms` are distinct, in byte order.
+ * @param {Archive[]} archives
  * @param {Term[]} terms
  * @param {number} r
  */
-export async function ranked(archive, terms, r) {
-  const found = await find(archive, terms);
-  /** @type {import('./walk.mjs').Lane[]} */
-  const lanes = [];
-  found.forEach((own, i) => {
-    if (!isPresent(own)) return;
-    lanes.push({ list: archive.list(own[0]), coefficient: terms[i].weight * idf(archive.documents, own[0].documents) });
-  });
-  const { cut, rows, met } = await walk(lanes, archive.documents, r);
-  const { writer, places } = startProof(archive, TNRA, found, met, lanes.map(lane => lane.list), cut);
+export async function ranked(archives, terms, r) {
+  const found = await ofShards(archives, archive => find(archive, terms));
+  const shards = archives.map((own, i) => ({ lanes: lanesOf(own, terms, found[i]), documents: own.documents }));
+  const settled = await walk(shards, r);
+  return archives.map((archive, i) => written(archive, found[i], shards[i].lanes, settled[i]));
+}
+
+/**
+ * @param {Archive} archive
+ * @param {Term[]} terms
+ * @param {import('./archive.mjs').DictionaryLeaf[][]} found
+ * @returns {import('./walk.mjs').Lane[]}
+ */
+const lanesOf = (archive, terms, found) => terms.flatMap(({ weight }, i) => {
+  const [leaf] = found[i];
+  if (!isPresent(found[i])) return [];
+  return [{ list: archive.list(leaf), coefficient: weight * idf(archive.documents, leaf.documents) }];
+});
+
+/**
+ * @param {Archive} archive
+ * @param {Leaf[][]} found
+ * @param {import('./walk.mjs').Lane[]} lanes
+ * @param {import('./walk.mjs').Settled} settled
+ */
+function written(archive, found, lanes, { cut, rows, met }) {
+  const { writer, places } = startProof(archive, TNRA, found, met, lanes.map(({ list }) => list), cut);
   writer.u16(rows.length);
   rows.forEach(doc => writer.u32(places[doc]));
   return writer.done();
@@ -201,17 +219,25 @@ function cutOfAll(terms, lists) {
 }
 
 /**
- * The honest proof of all documents that have every term, if the terms of at most `most` documents have to be read for
- * it.
- * @param {Archive} archive
+ * From each archive the honest proof of all its documents that have every term, if the terms of at most `most`
+ * documents have to be read for them.
+ * @param {Archive[]} archives
  * @param {Term[]} terms
  * @param {number} most
  */
-export async function both(archive, terms, most) {
-  const found = await find(archive, terms), present = found.filter(isPresent).map(([leaf]) => leaf);
-  const lists = present.map(leaf => archive.list(leaf)), cut = cutOfAll(terms, lists);
-  const shown = cut.reduce((sum, count) => sum + count, 0);
+export async function both(archives, terms, most) {
+  const parts = await ofShards(archives, async archive => {
+    const found = await find(archive, terms), present = found.filter(isPresent).map(([leaf]) => leaf);
+    const lists = present.map(leaf => archive.list(leaf)), cut = cutOfAll(terms, lists);
+    return { archive, found, present, lists, cut };
+  });
+  const shown = parts.flatMap(({ cut }) => cut).reduce((sum, count) => sum + count, 0);
   if (shown > most) throw new Fault('input', `input: ${shown} documents to look into, of at most ${most}`);
+  return ofShards(parts, bothOf);
+}
+
+/** The proof of one archive. */
+async function bothOf({ archive, found, present, lists, cut }) {
   await Promise.all(lists.map((list, i) => list.upTo(cut[i])));
   const shownDocs = lists.flatMap((list, i) => [...list.docs.subarray(0, cut[i])]);
   const met = [...new Set(shownDocs)].sort((a, b) => a - b);

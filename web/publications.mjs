@@ -1,10 +1,14 @@
 // Reads the publications of an owner (docs/formats.md, the file of a publication) beside the folders of archives: which
-// root is the newest of an archive, and which growths lead there. Whoever gets a growth checks it under both roots.
+// archives a catalog has, which root is the newest, and which growths lead there. Whoever gets a growth checks it under
+// both roots.
 
+import { bytesOfHex, hex } from './bytes.mjs';
 import { Fault, hostFault } from './fault.mjs';
+import { sha256 } from './sha256.mjs';
+import { leafDigest, rootOf } from './tree.mjs';
 
 const MOST_PUBLICATION = 2 ** 20, MOST_GROWTH = 4096, MOST_STEPS = 64;
-const LATEST = 'publication.txt', numbered = number => `publication-${number}.txt`;
+const CATALOG_TAG = 2, LATEST = 'publication.txt', numbered = number => `publication-${number}.txt`;
 const SHARD = new RegExp(['^shard: [0-9]+', 'root: ([0-9a-f]{64})', 'format: [12]', 'documents: [0-9]+',
   'before: (none|[0-9a-f]{64})', 'growth: (none|[a-z0-9][a-z0-9.-]{0,63})$'].join('\n'), 'gm');
 
@@ -12,12 +16,12 @@ const SHARD = new RegExp(['^shard: [0-9]+', 'root: ([0-9a-f]{64})', 'format: [12
  * @typedef {import('./question.mjs').Host} Host
  * @typedef {import('./question.mjs').Question} Question
  * @typedef {{ root: string, before: string, growth: string }} Shard
- * @typedef {{ number: number, name: string, titles: boolean, shards: Shard[] }} Publication
+ * @typedef {{ number: number, name: string, titles: boolean, catalog: string, shards: Shard[] }} Publication
  */
 
 /**
- * A publication: its number, the archive's name if it has one, whether first lines are titles, and of each shard its
- * root, the root before, and the name of the growth between them.
+ * A publication: its number, the archive's name if it has one, whether first lines are titles, the catalog's root, and
+ * of each shard its root, the root before, and the name of the growth between them.
  * @param {Host} host
  * @param {string} name
  * @param {Question} question
@@ -29,8 +33,8 @@ async function read(host, name, question) {
   const said = new TextDecoder().decode(bytes), number = Number(/^publication: ([0-9]{1,9})\n/.exec(said)?.[1]);
   const shards = [...said.matchAll(SHARD)].map(([, root, before, growth]) => ({ root, before, growth }));
   if (!number || shards.length === 0) throw hostFault('wrong', name, 'no publication');
-  const own = /^name: (.{1,100})$/mu.exec(said)?.[1] ?? '';
-  return { number, name: own, titles: /^titles: first-line$/m.test(said), shards };
+  const own = /^name: (.{1,100})$/mu.exec(said)?.[1] ?? '', catalog = /^catalog: (.*)$/m.exec(said)?.[1] ?? '';
+  return { number, name: own, titles: /^titles: first-line$/m.test(said), catalog, shards };
 }
 
 /**
@@ -47,8 +51,33 @@ async function* backward(host, question) {
 }
 
 /**
- * The newest root of the shard that has or had this root, its name, and whether its first lines are titles; or
- * undefined.
+ * The root of the catalog of archives with these roots.
+ * @param {string[]} roots
+ */
+function catalogOf(roots) {
+  const front = Uint8Array.of(0x41, 0x54, 0x53, 0x43, 1, 0, 0, 0, 0); // ATSC
+  new DataView(front.buffer).setUint32(5, roots.length);
+  return hex(sha256(CATALOG_TAG, front, rootOf(roots.map(root => leafDigest(bytesOfHex(root))))));
+}
+
+/**
+ * The roots of the archives of a catalog.
+ * @param {Host} host
+ * @param {string} root of the catalog
+ * @param {Question} question
+ */
+export async function rootsOf(host, root, question) {
+  for await (const { catalog, shards } of backward(host, question)) {
+    const roots = shards.map(shard => shard.root);
+    if (catalog === root && catalogOf(roots) !== root) throw hostFault('wrong', LATEST, 'roots of another catalog');
+    if (catalog === root) return roots;
+  }
+  throw new Fault('missing', `host: no catalog ${root}`);
+}
+
+/**
+ * The newest root of what has or had this root, be it a catalog or one of its archives; its name, and whether its first
+ * lines are titles; or undefined.
  * @param {Host} host
  * @param {string} root
  * @param {Question} question
@@ -58,9 +87,12 @@ export async function newest(host, root, question) {
   let latest;
   for await (const one of backward(host, question)) {
     latest ??= one;
-    const place = one.shards.findIndex(shard => shard.root === root);
-    const { name, titles, shards } = latest;
-    if (place >= 0) return shards[place] && { root: shards[place].root, name, titles };
+    const { catalog, shards } = one, place = shards.findIndex(shard => shard.root === root);
+    const { name, titles } = latest;
+    // An archive may become the first of several.
+    const isWhole = catalog === root || place === 0 && latest.shards.length > 1;
+    const found = isWhole ? latest.catalog : latest.shards[place]?.root;
+    if (isWhole || place >= 0) return found && { root: found, name, titles };
   }
   return undefined;
 }

@@ -1,10 +1,11 @@
 // The results of an answer. The text of each is fetched, and shown only if the check accepts it. Not proved.
 
 import { Fault } from './fault.mjs';
-import { faultWords, reasonOf, scoreOf } from './sentences.mjs';
+import { documentOf } from './places.mjs';
+import { capital, faultWords, reasonOf, scoreOf } from './sentences.mjs';
 import { element, marked } from './view.mjs';
 
-const AT_ONCE = 4;
+const TEXTS_AT_ONCE = 4;
 
 /** @typedef {import('./asking.mjs').Answer} Answer */
 
@@ -19,7 +20,7 @@ export class Results {
 
   /**
    * @param {HTMLElement} list
-   * @param {(doc: number) => string} linkTo the address of a text
+   * @param {(doc: string) => string} linkTo the address of a text
    */
   constructor(list, linkTo) {
     this.#list = list;
@@ -36,7 +37,7 @@ export class Results {
    * Shows these documents of an answer, and fetches their texts.
    * @param {import('./asking.mjs').Asking} asking
    * @param {Answer} answer
-   * @param {number[]} docs
+   * @param {string[]} docs
    */
   show(asking, answer, docs) {
     this.clear();
@@ -47,7 +48,7 @@ export class Results {
     const run = async () => {
       for (let next = left.shift(); next; next = left.shift()) await this.#fill(answer, next.doc, next.item);
     };
-    this.#coming = Promise.all(Array.from({ length: AT_ONCE }, run));
+    this.#coming = Promise.all(Array.from({ length: TEXTS_AT_ONCE }, run));
   }
 
   /** Resolves when no text is on its way any more. */
@@ -55,27 +56,27 @@ export class Results {
 
   /**
    * @param {Answer} answer
-   * @param {number} doc
+   * @param {string} doc
    * @param {number} i
    */
   #item({ way, rows }, doc, i) {
-    const link = element('a', `Document ${doc}`, { href: this.#linkTo(doc), className: 'open' });
+    const name = documentOf(doc), link = element('a', capital(name), { href: this.#linkTo(doc), className: 'open' });
     const title = element('h3', [link], { className: 'title', dir: 'auto' });
     const text = element('p', 'The text is on its way …', { className: 'text', dir: 'auto' });
-    const says = way === 'best' ? `${i + 1}. Document ${doc} · ${scoreOf(rows[i])}` : `Document ${doc}`;
+    const says = way === 'best' ? `${i + 1}. ${capital(name)} · ${scoreOf(rows[i])}` : capital(name);
     const frame = element('div', [title, text], { className: 'frame' });
     frame.setAttribute('role', 'group');
-    frame.setAttribute('aria-label', `From the text of document ${doc}`);
+    frame.setAttribute('aria-label', `From the text of ${name}`);
     const item =
       element('li', [frame, element('p', [element('span', says, { className: 'says' })], { className: 'small' })]);
-    item.dataset.doc = String(doc);
+    item.dataset.doc = doc;
     item.setAttribute('aria-busy', 'true');
     return item;
   }
 
   /**
    * @param {Answer} answer
-   * @param {number} doc
+   * @param {string} doc
    * @param {HTMLElement} item
    */
   async #fill(answer, doc, item) {
@@ -84,7 +85,7 @@ export class Results {
       const { got, read } = await asking.read(answer, 'excerpt', doc, [answer.words.marked, answer.titles], signal);
       if (signal.aborted) return;
       if (read) text(item, read);
-      else refused(item, reasonOf(got, 'text'), 'The check’s line:', got.line);
+      else withheld(item, reasonOf(got, 'text'), 'The check’s line:', got.line);
     } catch (fault) {
       if (signal.aborted) return;
       const why = fault instanceof Fault ? fault : new Fault('stopped', `${fault}`);
@@ -95,7 +96,7 @@ export class Results {
 
   /**
    * @param {Answer} answer
-   * @param {number} doc
+   * @param {string} doc
    * @param {HTMLElement} item
    * @param {Fault} why
    */
@@ -129,7 +130,7 @@ function text(item, { title, text: shown, marks, before, after, length }) {
   part(item, '.small').append(' · ', element('span', '✓ text checked', { className: 'checked' }));
 }
 
-function refused(item, reason, whose, line) {
+function withheld(item, reason, whose, line) {
   part(item, '.text').replaceChildren();
   part(item, '.open').replaceWith(part(item, '.open').textContent);
   const verdict = element('p', '✗ This text is refused: it is not shown', { className: 'verdict' });

@@ -1,8 +1,6 @@
 // The root that the person accepted, which this browser keeps, and the roots that it had before the archive grew. And
 // what becomes of a newer one: it counts only with a growth that the check accepts, and only when the person takes it.
 // Not proved.
-import { bytesOfHex } from './bytes.mjs';
-import { Fault } from './fault.mjs';
 import { dayOf } from './sentences.mjs';
 
 const KEPT = 'root';
@@ -60,48 +58,25 @@ export function originOf(root, how) {
 }
 
 /**
- * What an offered root is to the person's: the same; grown from it, with both numbers of documents; older, with the day
- * on which it was left; other, since no growth leads there; or refused, with the verdict.
- * @typedef {{ kind: 'same' | 'grown' | 'older' | 'other' | 'refused', before?: number, after?: number, day?: string,
- *   got?: any }} Relation
+ * What an offered root is to the person's: the same; grown from it, with both numbers of archives, and those of
+ * documents of the last old archive if that has grown; older, with the day on which it was left; other, since no growth
+ * leads there; or refused, with the verdict.
+ * @typedef {{ kind: 'same' | 'grown' | 'older' | 'other' | 'refused', archives?: number[], before?: number,
+ *   after?: number, day?: string, got?: any }} Relation
  *
- * @param {import('./source.mjs').Source} source
- * @param {import('./calls.mjs').Calls} checks
+ * @param {import('./asking.mjs').Asking} asking
  * @param {string} root
  * @param {string} offered
  * @param {AbortSignal} [signal]
  * @returns {Promise<Relation>}
  */
-export async function relation(source, checks, root, offered, signal) {
+export async function relation(asking, root, offered, signal) {
   if (offered === root) return { kind: 'same' };
   if (leftOn(offered)) return { kind: 'older', day: leftOn(offered) };
-  let steps;
-  try {
-    steps = await source.growth({ from: root, to: offered }, { signal });
-  } catch (fault) {
-    if (fault instanceof Fault && fault.word === 'missing') return { kind: 'other' };
-    throw fault;
-  }
-  return grown(checks, root, offered, steps, signal);
-}
-
-/**
- * @param {import('./calls.mjs').Calls} checks
- * @param {string} root
- * @param {string} offered
- * @param {{ from: string, to: string, file: Uint8Array }[]} steps
- * @param {AbortSignal} [signal]
- * @returns {Promise<Relation>}
- */
-async function grown(checks, root, offered, steps, signal) {
-  let at = root, before, after;
-  for (const { from, to, file } of steps) {
-    if (from !== at) return { kind: 'other' };
-    const got = await checks.call('growth', [file, bytesOfHex(from), bytesOfHex(to)], { signal });
-    if (got.status !== 0) return { kind: 'refused', got };
-    before ??= got.grown.old;
-    after = got.grown.new;
-    at = to;
-  }
-  return at === offered && before !== undefined ? { kind: 'grown', before, after } : { kind: 'other' };
+  const [old, now] = await Promise.all([root, offered].map(it => asking.shards(it, signal))), last = old.length - 1;
+  // Only the last archive of a catalog grows, and others come after it.
+  if (now.length < old.length || old.some((it, i) => i < last && it !== now[i])) return { kind: 'other' };
+  const archives = [old.length, now.length];
+  return old[last] === now[last] ? { kind: 'grown', archives }
+    : { archives, ...await asking.growth(old[last], now[last], signal) };
 }

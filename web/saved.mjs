@@ -1,9 +1,11 @@
 // A saved proof: a ZIP file with the question, the bytes of the proof, those of the texts, and how to check them with
 // the program. It is evidence by its proof alone, so the page checks all of it again when it opens one. Not proved.
 
+import { documentOf, isCatalog, isName, placeOf } from './places.mjs';
 import { badSign, readQuery } from './query.mjs';
+import { capital } from './sentences.mjs';
 
-const ABOUT = 'about.json', PROOF = 'answer.proof', QUERY = 'query.txt', HOW = 'how-to-check.txt',
+const ABOUT = 'about.json', PROOF = 'answer.proof', ROOTS = 'roots.txt', QUERY = 'query.txt', HOW = 'how-to-check.txt',
       FORMAT = 'ats saved proof 1';
 const MOST = 2 ** 29, MOST_FILES = 70000;
 
@@ -71,51 +73,59 @@ function unzipped(bytes) {
 // ---- a saved proof
 
 /** The query is read from a file of its own, so that no sign of it can be a part of a command. */
-function howToCheck({ way, root, r }, docs) {
-  const query = `"$(cat ${QUERY})"`;
-  const command =
-    way === 'all' ? `./ats both ${root} ${query} ${PROOF}` : `./ats verify ${root} ${r} ${query} ${PROOF}`;
+function howToCheck(answer, names) {
+  const { way, root, shards, r } = answer, query = `"$(cat ${QUERY})"`, isMany = isCatalog(answer);
+  const best = `./ats ${isMany ? 'catalog' : 'verify'} ${root} ${r} ${query} ${PROOF}`;
+  const all = proofNames(answer).map((name, i) => `./ats both ${shards[i]} ${query} ${name}`);
+  const text = name => `./ats fetch ${shards[placeOf(name).shard]} ${placeOf(name).doc} ${name}.text`;
   return [
     'The proof of an answer, and of the texts of documents. Whoever knows the root can check them, with no host:',
     `open this ZIP file on the page that saved it, or unpack it and call the program. The query is in ${QUERY}.`, '',
-    command, ...docs.map(doc => `./ats fetch ${root} ${doc} ${doc}.text`), '',
+    ...(isMany ? [`./ats catalog-root ${ROOTS}`] : []), ...(way === 'all' ? all : [best]), ...names.map(text), '',
+    ...(isMany ? [`The first one must print the catalog's root; ${ROOTS} has those of its archives, from 0 on.`] : []),
     `Is this the root that the archive's owner published? Everything rests on that: ${root}`, ''
   ].join('\n');
 }
+
+/** Of all documents of a catalog there is a proof from each archive. */
+const proofNames = of => of.way === 'all' && isCatalog(of) ? of.shards.map((_, i) => `${i}.proof`) : [PROOF];
 
 /**
  * The file to save. The documents of the answer are there to be read; the check finds them again.
  * @param {import('./asking.mjs').Answer} answer
  * @param {Date} moment
  */
-export function saved({ way, root, r, query, titles, proof, docs: documents, texts }, moment) {
+export function saved(answer, moment) {
+  const { way, root, shards, r, query, titles, proofs, docs: documents, texts } = answer;
   const rows = way === 'best' ? { rows: r, algorithm: 'tnra' } : {};
   const about = { format: FORMAT, root, way, ...rows, query, titles, date: moment.toISOString(), documents };
   const escaped = it => `\\u${it.charCodeAt(0).toString(16).padStart(4, '0')}`;
   const ascii = JSON.stringify(about, null, 1).replace(/[\u007f-\uffff]/g, escaped);
-  const docs = [...texts.keys()].sort((a, b) => a - b), encode = text => new TextEncoder().encode(text);
+  const names = documents.filter(name => texts.has(name)), encode = text => new TextEncoder().encode(text);
   const files = [
-    [ABOUT, encode(ascii)], [HOW, encode(howToCheck({ way, root, r }, docs))], [QUERY, encode(query)], [PROOF, proof],
-    ...docs.map(doc => [`${doc}.text`, texts.get(doc)])
+    [ABOUT, encode(ascii)], [HOW, encode(howToCheck(answer, names))], [QUERY, encode(query)],
+    ...(isCatalog(answer) ? [[ROOTS, encode(shards.map(it => `${it}\n`).join(''))]] : []),
+    ...proofNames(answer).map((name, i) => [name, proofs[i]]), ...names.map(name => [`${name}.text`, texts.get(name)])
   ];
   return new Blob(zipped(files, moment), { type: 'application/zip' });
 }
 
 /**
- * The question, the proof and the texts of a file that `saved` made, or undefined if it is none.
+ * The question, the proofs and the texts of a file that `saved` made, or undefined if it is none.
  * @param {File} file
  */
 export async function opened(file) {
   if (file.size > MOST) return undefined;
   const files = unzipped(new Uint8Array(await file.arrayBuffer()));
-  const proof = files?.get(PROOF), about = questionOf(files?.get(ABOUT));
-  if (!files || !proof || !about) return undefined;
-  const texts = new Map();
+  const about = questionOf(files?.get(ABOUT));
+  if (!files || !about) return undefined;
+  const listed = new TextDecoder().decode(files.get(ROOTS)).match(/^[0-9a-f]{64}$/gm), texts = new Map();
+  const of = { ...about, shards: listed ?? [about.root] };
+  const proofs = proofNames(of).flatMap(name => files.get(name) ?? []);
   for (const [name, bytes] of files) {
-    const doc = /^(0|[1-9][0-9]{0,4})\.text$/.exec(name);
-    if (doc) texts.set(Number(doc[1]), bytes);
+    if (name.endsWith('.text') && isName(name.slice(0, -5))) texts.set(name.slice(0, -5), bytes);
   }
-  return { ...about, proof, texts };
+  return proofs.length ? { ...of, proofs, texts } : undefined;
 }
 
 const isRows = n => Number.isInteger(n) && n >= 0 && n < 2 ** 32;
@@ -142,7 +152,7 @@ function questionOf(bytes) {
 }
 
 /** A name for the file, from the query's letters and digits. */
-export const nameOf = ({ query }, day) =>
+export const fileNameOf = ({ query }, day) =>
   `${[...query.matchAll(/[\p{L}\p{N}]+/gu)].join('-').slice(0, 40) || 'answer'}-${day}.zip`;
 
 // ---- links and lines to cite
@@ -150,7 +160,7 @@ export const nameOf = ({ query }, day) =>
 /**
  * The part of a link after `#`: the root, the question, and the document that is open.
  * @param {{ root: string, way?: string, typed?: string, r?: number }} question
- * @param {{ host?: string, doc?: number }} more
+ * @param {{ host?: string, doc?: string }} more
  */
 export function linkOf({ root, way, typed }, { host, doc }) {
   const parts = { host, root, way, query: typed, doc };
@@ -159,13 +169,14 @@ export function linkOf({ root, way, typed }, { host, doc }) {
 }
 
 /**
- * A line to cite: which document of which archive, and how it was found.
+ * A line to cite: which document it is, and how it was found.
  * @param {import('./asking.mjs').Answer} answer
- * @param {number} doc
+ * @param {string} doc
  * @param {string} day
  */
-export function citeOf({ way, root, query, r, docs }, doc, day) {
+export function citeOf(answer, doc, day) {
+  const { way, root, query, r, docs } = answer, what = isCatalog(answer) ? 'catalog' : 'archive';
   const found = way === 'all' ? `one of all documents with every word of “${query}”`
     : `number ${docs.indexOf(doc) + 1} of the best ${r} for “${query}”`;
-  return `Document ${doc} of the archive with the root ${root}, ${found}, checked ${day}`;
+  return `${capital(documentOf(doc))} of the ${what} with the root ${root}, ${found}, checked ${day}`;
 }

@@ -58,17 +58,21 @@ const NAMES = { best: 'proof', all: 'proof', text: 'file of the text', growth: '
 
 /**
  * One sentence for a verdict that is not green. `what` was checked: `best`, `all`, `text` or `growth`.
- * @param {import('./check.mjs').Verdict} verdict
+ * @param {import('./check.mjs').Verdict & { shard?: number }} verdict with the number of the archive, if it is of the
+ *   proof of one of several
  * @param {string} [what]
  * @returns {string}
  */
-export const reasonOf = ({ reason, first, second }, what = 'best') =>
-  (REASONS[reason] ?? (() => 'The check gave a reason that this page does not know.'))(first, second, NAMES[what]);
+export function reasonOf({ reason, first, second, shard }, what = 'best') {
+  const said = REASONS[reason] ?? (() => 'The check gave a reason that this page does not know.');
+  return (shard === undefined ? '' : `Archive ${shard}: `) + said(first, second, NAMES[what]);
+}
 
 // Which of these has numbers that count from 0.
 const COUNTED = new Set([20, 21, 22, 23, 24, 25, 30, 31, 32]);
-export const countingOf = ({ reason }) => COUNTED.has(reason)
-  ? 'Rows, entries and documents count from 0, and so do query words, in the order of their bytes, once each.' : '';
+export const countingOf = ({ reason, shard }) => COUNTED.has(reason) || shard !== undefined
+  ? 'Archives, rows, entries and documents count from 0, and so do query words, in the order of their bytes, once each.'
+  : '';
 
 const FAULTS = {
   link: 'The host cannot be reached. Look at your connection, and ask again.',
@@ -91,6 +95,9 @@ const FAULTS = {
  */
 export const faultWords = ({ word, said }) => said || (FAULTS[word] ?? FAULTS.link);
 
+/** @param {string} text */
+export const capital = text => text.replace(/^./, it => it.toUpperCase());
+
 /** @param {number} n */
 export const number = n => n.toLocaleString('en-US');
 
@@ -104,11 +111,11 @@ export const afterRefusal = from => from
 
 /**
  * The line above an accepted answer, which says what is proved.
- * @param {{ way: string, found: number, r: number, all: number, words: number }} answer how many were found, of how
- *   many
+ * @param {{ way: string, found: number, r: number, all: number, words: number, archives: number }} answer how many were
+ *   found, of how many
  */
-export function headingOf({ way, found, r, all, words }) {
-  const of = `of ${documents(all)}`;
+export function headingOf({ way, found, r, all, words, archives }) {
+  const of = `of ${documents(all)}${archives > 1 ? ` in ${number(archives)} archives` : ''}`;
   if (way === 'all') {
     if (found === 0) return words === 1 ? 'No document has this word' : 'No document has every one of these words';
     const every = words === 1 ? 'this word' : 'every one of these words';
@@ -125,12 +132,12 @@ export function headingOf({ way, found, r, all, words }) {
 
 /**
  * What was checked of an accepted answer, in full.
- * @param {{ way: string, found: number, r: number, root: string }} answer
+ * @param {{ way: string, found: number, r: number, root: string, archives: number }} answer
  */
-export function checkedOf({ way, found, r, root }) {
+export function checkedOf({ way, found, r, root, archives }) {
   const best = found === 1 ? 'this is the best document' : `these are the best ${number(found)} documents, best first`;
-  const hashed =
-    `This page rebuilt the hashes of all that the proof shows of the archive, up to the root ${root}, and checked that`;
+  const what = archives > 1 ? 'proofs show of the archives' : 'proof shows of the archive';
+  const hashed = `This page rebuilt the hashes of all that the ${what}, up to the root ${root}, and checked that`;
   if (way === 'all') {
     const these = found === 0 ? 'no document has' : 'these documents, and no others, have';
     return `${hashed} ${these} every word of the query.`;
@@ -140,12 +147,24 @@ export function checkedOf({ way, found, r, root }) {
   return `${hashed} ${best}: no other document can score higher than ${found === 1 ? 'it' : 'the last one'}.`;
 }
 
-/** What a growth says of the texts that were there before. */
-export const grownOf = before => before === 1 ? 'Text 0 is the same under both roots.'
-  : `Texts 0 to ${number(before - 1)} are the same under both roots.`;
-export const grewOf = (before, after) => after === before
-  ? `The archive has another root, and the same ${documents(before)}`
-  : `The archive grew from ${number(before)} to ${documents(after)}; nothing was withdrawn`;
+/**
+ * What a growth says of the texts that were there before, of the last archive if it has grown.
+ * @param {import('./roots.mjs').Relation} grown
+ */
+export function grownOf({ archives: [old] = [1], before }) {
+  if (old > 1 || before === undefined) return 'All texts are the same under both roots.';
+  return before === 1 ? 'Text 0 is the same under both roots.'
+    : `Texts 0 to ${number(before - 1)} are the same under both roots.`;
+}
+
+/** @param {import('./roots.mjs').Relation} grown */
+export function grewOf({ archives: [old, now] = [1, 1], before, after }) {
+  const it = now === 1 ? 'the archive' : `archive ${old - 1}`, said = [];
+  if (before !== undefined && before === after) said.push(`${it} has another root, and the same ${documents(before)}`);
+  else if (before !== undefined) said.push(`${it} grew from ${number(before)} to ${documents(after ?? 0)}`);
+  if (now > old) said.push(`archives were added, ${number(old)} before and now ${number(now)}`);
+  return capital(`${said.join('; ')}; nothing was withdrawn`);
+}
 
 /** @param {{ lower: bigint, upper: bigint }} row */
 export const scoreOf = ({ lower, upper }) => lower === upper ? `score ${lower}` : `score between ${lower} and ${upper}`;

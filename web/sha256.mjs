@@ -1,5 +1,7 @@
 // SHA-256 (FIPS 180-4) for many short strings: no promise for each, as WebCrypto has, and no object but the digest.
 
+import { DIGEST } from './bytes.mjs';
+
 /** @type {number[]} */
 const primes = [];
 for (let n = 2; primes.length < 64; n++) if (primes.every(prime => n % prime)) primes.push(n);
@@ -8,7 +10,6 @@ const fraction = root => (root - Math.floor(root)) * 2 ** 32 | 0;
 const CONSTANTS = Int32Array.from(primes, prime => fraction(Math.cbrt(prime)));
 const START = Int32Array.from(primes.slice(0, 8), prime => fraction(Math.sqrt(prime)));
 
-export const DIGEST = 32;
 const WORDS = DIGEST / 4, BLOCK = 64, SHORT = 4 * BLOCK;
 const short = new Uint8Array(SHORT), w = new Int32Array(BLOCK), state = new Int32Array(WORDS);
 const NONE = new Uint8Array(0);

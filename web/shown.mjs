@@ -1,9 +1,9 @@
 // What an accepted proof shows beside its answer, as docs/formats.md lays it out. Not proved: the check has looked at
 // these bytes.
 
-import { Fields } from './bytes.mjs';
+import { DIGEST, Fields } from './bytes.mjs';
 
-const FRONT = 6, DIGEST = 32;
+const START = 6; // bytes before the header
 
 /**
  * The number of documents of the archive, and for each term of the query, in the order of its bytes, how many documents
@@ -13,7 +13,7 @@ const FRONT = 6, DIGEST = 32;
  */
 export function shownBy(proof) {
   const fields = new Fields('proof', proof);
-  fields.take(FRONT);
+  fields.take(START);
   fields.u8(); // the header begins with its version
   const documents = fields.u32();
   fields.take(4 + 3 * DIGEST);

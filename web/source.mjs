@@ -1,8 +1,9 @@
-// A source of answers for the page: the folder of an archive on hosts of files. Nobody trusts it: the page checks all
+// A source of answers for the page: the folders of archives on hosts of files. Nobody trusts it: the page checks all
 // that it returns. It assembles in a worker. Not proved.
 
 import { Calls } from './calls.mjs';
 import { Fault } from './fault.mjs';
+import { faultWords } from './sentences.mjs';
 
 /**
  * @typedef {import('./calls.mjs').How} How
@@ -35,18 +36,26 @@ export class Source {
   }
 
   /**
-   * The proof of the best r documents.
-   * @param {{ root: string, terms: Term[], r: number }} asked
+   * The roots of the archives under a root: those of a catalog, or the root itself.
+   * @param {{ root: string }} asked
    * @param {How} [how]
-   * @returns {Promise<Uint8Array>}
+   * @returns {Promise<string[]>}
+   */
+  roots(asked, how) { return this.#asked('roots', asked, how); }
+
+  /**
+   * From each of these archives the proof of the best r documents of all.
+   * @param {{ roots: string[], terms: Term[], r: number }} asked
+   * @param {How} [how]
+   * @returns {Promise<Uint8Array[]>}
    */
   ranked(asked, how) { return this.#asked('ranked', asked, how); }
 
   /**
-   * The proof of all documents with every term.
-   * @param {{ root: string, terms: Term[] }} asked
+   * From each of these archives the proof of all its documents with every term.
+   * @param {{ roots: string[], terms: Term[] }} asked
    * @param {How} [how]
-   * @returns {Promise<Uint8Array>}
+   * @returns {Promise<Uint8Array[]>}
    */
   both(asked, how) { return this.#asked('both', asked, how); }
 
@@ -87,6 +96,8 @@ function saidOf({ word, line }) {
     return `To show that no document is missing, ${many[1]} documents have to be looked into, and this page does so `
       + `for at most ${many[2]}. Add a rarer word.`;
   }
-  if (word === 'missing' && line.includes('head')) return 'This host has no folder of the archive with this root.';
-  return '';
+  const [, shard] = /^host: shard (\d+): /.exec(line) ?? [];
+  const isHead = word === 'missing' && line.includes('head');
+  const said = isHead ? 'This host has no folder of the archive with this root.' : '';
+  return shard ? `Archive ${shard}: ${said || faultWords({ word })}` : said;
 }

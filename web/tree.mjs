@@ -23,7 +23,7 @@ const splitOf = n => 2 ** (31 - Math.clz32(n - 1));
  * @param {Uint8Array[]} digests
  * @returns {Uint8Array}
  */
-function rootOf(digests, from = 0, to = digests.length) {
+export function rootOf(digests, from = 0, to = digests.length) {
   if (to - from === 1) return digests[from];
   const middle = from + splitOf(to - from);
   return nodeDigest(rootOf(digests, from, middle), rootOf(digests, middle, to));

@@ -1,9 +1,15 @@
-// The TNRA walk: the first cut of the schedule at which an answer is settled, as docs/client.md defines it.
+// The TNRA walk over the lists of one archive or of several: for each the first cut of its schedule (docs/client.md) at
+// which the best documents of all are settled. Of one archive that is the cut of its own proof.
+
+import { ofShards } from './shards.mjs';
 
 const STEPS = [1117, 1218, 1328, 1448, 1579, 1722, 1878];
 
 /**
  * @typedef {{ list: import('./list.mjs').InvertedList, coefficient: number }} Lane
+ * @typedef {{ lanes: Lane[], documents: number }} Shard
+ * @typedef {{ doc: number, low: number, high: number }} Bracket
+ * @typedef {{ best: Bracket[], other: number }} Stand the best documents at a cut, and the most of any other one
  * @typedef {{ cut: number[], rows: number[], met: number[] }} Settled
  */
 
@@ -95,13 +101,13 @@ function largest(r, docs, values) {
   return kept[kept.length - 1];
 }
 
-/** Bounds of the met documents at a cut, and whether the best rows are settled there. */
+/** Bounds of the met documents at a cut, of one archive after another. */
 class Bounds {
   #low; #named; #room; #threshold = 0;
   /** @type {number[]} */
   #rests = [];
 
-  /** @param {number} documents */
+  /** @param {number} documents at most, of each archive */
   constructor(documents) {
     this.#low = new Uint32Array(documents); // 255 × 124 × 65,535 is below 2^32
     this.#named = new Uint32Array(documents); // which lists name the document, a bit for each
@@ -157,87 +163,158 @@ class Bounds {
   }
 
   /**
-   * Whether a met document that is no row may score more than this.
-   * @param {number[]} rows
-   * @param {number} last
+   * The most that a document may score which is none of these.
+   * @param {number[]} best
    */
-  #hasOther(rows, last) {
-    const { met } = this, low = this.#low, threshold = this.#threshold, inside = new Set(rows);
+  #mostOfOthers(best) {
+    const { met } = this, low = this.#low, threshold = this.#threshold, inside = new Set(best);
+    let most = threshold;
     for (let i = 0; i < met.length; i++) {
       const doc = met[i];
-      if (low[doc] + threshold > last && this.#high(doc) > last && !inside.has(doc)) return true;
+      if (low[doc] + threshold > most && !inside.has(doc)) most = Math.max(most, this.#high(doc));
     }
-    return false;
+    return most;
   }
 
   /**
-   * The best r of the met documents, or all if there are fewer, if they are settled.
    * @param {number} r
+   * @returns {Stand}
    */
-  settled(r) {
-    const { met } = this, low = this.#low, threshold = this.#threshold;
-    if (met.length < r && threshold > 0) return undefined;
-    const above = this.#above();
-    if (above.length < Math.min(r, met.length)) return undefined;
-    const rows = this.#best(r, above);
-    if (rows.some((doc, i) => i > 0 && this.#high(doc) > low[rows[i - 1]])) return undefined;
-    return this.#hasOther(rows, low[rows[rows.length - 1]]) ? undefined : rows;
+  stand(r) {
+    const best = this.#best(r, this.#above());
+    return {
+      best: best.map(doc => ({ doc, low: this.#low[doc], high: this.#high(doc) })),
+      other: this.#mostOfOthers(best)
+    };
   }
 }
 
+const FURTHER = 4;
+
+/** The lists of one archive, as far as they are read. */
+class Walk {
+  #lanes; #schedule; #bounds; #goesOn = true;
+
+  /**
+   * @param {Lane[]} lanes
+   * @param {Bounds} bounds
+   */
+  constructor(lanes, bounds) {
+    this.#lanes = lanes;
+    this.#schedule = new Schedule(lanes);
+    this.#bounds = bounds;
+  }
+
+  get turns() { return this.#schedule.count; }
+  get goesOn() { return this.#goesOn; }
+
+  /** @param {number} entries of each list */
+  async upTo(entries) {
+    await Promise.all(this.#lanes.map(({ list }) => list.upTo(entries)));
+    this.#goesOn = this.#schedule.run();
+  }
+
+  /** Reads each list on to several times its shown entries, if most of it is shown: a round costs more than bytes. */
+  async readOn() {
+    const { shown } = this.#schedule, isNear = ({ list }, i) => 2 * shown[i] > list.known;
+    await Promise.all(this.#lanes.map((lane, i) => isNear(lane, i) && lane.list.upTo(FURTHER * shown[i])));
+    this.#goesOn = this.#schedule.run();
+  }
+
+  /**
+   * @param {number} turns
+   * @param {number} r
+   */
+  standAfter(turns, r) {
+    this.#bounds.at(this.#lanes, this.#schedule.cutAfter(turns));
+    return this.#bounds.stand(r);
+  }
+
+  /**
+   * @param {number} turns
+   * @param {number} r
+   * @returns {Settled}
+   */
+  settledAfter(turns, r) {
+    const rows = this.standAfter(turns, r).best.map(({ doc }) => doc);
+    return { cut: this.#schedule.cutAfter(turns), rows, met: [...this.#bounds.met.slice().sort()] };
+  }
+}
+
+/** What a shard's rest is if so many of its best are rows. */
+const restOfStand = ({ best, other }, rows) => best.slice(rows).reduce((most, { high }) => Math.max(most, high), other);
+
+/**
+ * How many rows of the best r each shard has, and which shards keep these from being settled, as docs/client.md says.
+ * @param {Stand[]} stands
+ * @param {number} r
+ */
+function merged(stands, r) {
+  const all = stands.flatMap(({ best }, shard) => best.map(it => ({ ...it, shard })));
+  const rows = all.sort((a, b) => b.low - a.low || b.high - a.high || a.shard - b.shard || a.doc - b.doc).slice(0, r);
+  const shares = stands.map(() => 0), blocking = new Set();
+  rows.forEach(({ high, shard }, i) => {
+    shares[shard]++;
+    if (i > 0 && high > rows[i - 1].low) blocking.add(shard).add(rows[i - 1].shard);
+  });
+  const least = rows.length === r ? rows[r - 1].low : 0, rests = stands.map((it, i) => restOfStand(it, shares[i]));
+  rests.forEach((rest, shard) => { if (rest > least) blocking.add(shard); });
+  return { shares, rests, blocking };
+}
+
 // Entries of all lists together that are read first: some 52 KiB. Of one list the first r settle the answer.
-const FIRST = 8192, FURTHER = 4;
-/**
- * @param {Lane[]} lanes
- * @param {number} r
- */
-const readFirst = (lanes, r) => {
-  const entries = lanes.length === 1 ? r : Math.ceil(FIRST / lanes.length);
-  return Promise.all(lanes.map(({ list }) => list.upTo(entries)));
-};
+const FIRST = 8192, AT_ONCE = 16;
 
 /**
- * Reads each list on to several times its shown entries, if most of it is shown: a further round costs more than bytes.
- * @param {Lane[]} lanes
- * @param {number[]} shown
- */
-const readOn = (lanes, shown) => {
-  const most = lanes.map(({ list }, i) => ({ list, entries: FURTHER * shown[i], isNear: 2 * shown[i] > list.known }));
-  return Promise.all(most.filter(({ isNear }) => isNear).map(({ list, entries }) => list.upTo(entries)));
-};
-
-/**
- * The cut, the rows and the met documents. Reads lists on only as far as what is here settles no answer.
- * @param {Lane[]} lanes
- * @param {number} documents
+ * Reads lists on until what is here settles the best r of all, the most promising shards first. Returns the stand of
+ * each shard, cut to its rows.
+ * @param {Walk[]} walks
  * @param {number} r
- * @returns {Promise<Settled>}
  */
-export async function walk(lanes, documents, r) {
-  if (lanes.length === 0) return { cut: [], rows: [], met: [] };
-  const schedule = new Schedule(lanes), bounds = new Bounds(documents);
-  /** @type {(turns: number) => Settled | undefined} */
-  const settledAfter = turns => {
-    const cut = schedule.cutAfter(turns);
-    bounds.at(lanes, cut);
-    const rows = bounds.settled(r);
-    return rows && { cut, rows, met: [...bounds.met.slice().sort()] };
-  };
-  await readFirst(lanes, r);
-  let unsettled = -1, goesOn = schedule.run(), found = settledAfter(schedule.count);
-  while (!found) {
-    if (!goesOn) throw new Error('whole lists settle nothing');
-    unsettled = schedule.count;
-    await readOn(lanes, schedule.shown);
-    goesOn = schedule.run();
-    found = settledAfter(schedule.count);
+async function readAll(walks, r) {
+  const stands = walks.map(walk => walk.standAfter(walk.turns, r));
+  for (;;) {
+    const { shares, rests, blocking } = merged(stands, r);
+    if (blocking.size === 0) return { stands: stands.map((it, i) => cutTo(it, shares[i])), shares };
+    const left = walks.map((_, i) => i).filter(i => blocking.has(i) && walks[i].goesOn);
+    if (left.length === 0) throw new Error('whole lists settle nothing');
+    const chosen = new Set(left.sort((a, b) => rests[b] - rests[a]).slice(0, AT_ONCE));
+    await ofShards(walks, async (walk, i) => { if (chosen.has(i)) await walk.readOn(); });
+    chosen.forEach(i => { stands[i] = walks[i].standAfter(walks[i].turns, r); });
   }
+}
+
+/**
+ * The same stand with so many of its best.
+ * @param {Stand} stand
+ * @param {number} rows
+ * @returns {Stand}
+ */
+const cutTo = (stand, rows) => ({ best: stand.best.slice(0, rows), other: restOfStand(stand, rows) });
+
+/**
+ * For each shard the cut, the rows and the met documents by which the best r of all are settled.
+ * @param {Shard[]} shards
+ * @param {number} r
+ * @returns {Promise<Settled[]>}
+ */
+export async function walk(shards, r) {
+  const bounds = new Bounds(Math.max(...shards.map(({ documents }) => documents)));
+  const walks = shards.map(({ lanes }) => new Walk(lanes, bounds));
+  const lists = shards.reduce((sum, { lanes }) => sum + lanes.length, 0), first = Math.ceil(FIRST / lists);
+  await ofShards(walks, (walk, i) => walk.upTo(shards[i].lanes.length === 1 ? Math.min(r, first) : first));
+  const { stands, shares } = await readAll(walks, r);
   // Impacts fall along a list, so what is settled stays settled: bounds only tighten, and a document that is met later
-  // was below the threshold. So halving finds the first settled cut.
-  for (let settled = schedule.count; settled - unsettled > 1;) {
-    const middle = settled + unsettled >> 1, earlier = settledAfter(middle);
-    if (earlier) [found, settled] = [earlier, middle];
-    else unsettled = middle;
-  }
-  return found;
+  // was below the threshold. So halving finds the first settled cut, of one shard while the others stay.
+  const hasAll = () => stands.every(({ best }, i) => best.length === shares[i]);
+  return walks.map((walk, i) => {
+    let unsettled = -1, settled = walk.turns;
+    while (settled - unsettled > 1) {
+      const middle = settled + unsettled >> 1, before = stands[i];
+      stands[i] = cutTo(walk.standAfter(middle, r), shares[i]);
+      if (hasAll() && merged(stands, r).blocking.size === 0) settled = middle;
+      else [unsettled, stands[i]] = [middle, before];
+    }
+    return walk.settledAfter(settled, shares[i]);
+  });
 }

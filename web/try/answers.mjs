@@ -18,9 +18,11 @@ while (found.length < Number(count)) {
   const { query, r } = question(draw, texts), terms = termsOf(query),
                    call = ['ranked', 'ranked', 'ranked', 'both', 'text'][draw(5)];
   if (!terms) continue;
-  const words = { ranked: { root, terms, r }, both: { root, terms }, text: { root, doc: draw(texts.length) } }[call];
-  const bytes = await assembler[call](words).catch(() => undefined); // too much for one proof of all documents
-  if (!bytes) continue;
+  const roots = [root], doc = draw(texts.length);
+  const words = { ranked: { roots, terms, r }, both: { roots, terms }, text: { root, doc } }[call];
+  const got = await assembler[call](words).catch(() => undefined); // too much for one proof of all documents
+  if (!got) continue;
+  const bytes = call === 'text' ? got : got[0];
   const spelt =
     words.terms ? {...words, terms: terms.map(({ term, weight }) => ({ term: hex(term), weight })) } : words;
   found.push({ call, words: spelt, digest: createHash('sha256').update(bytes).digest('hex') });

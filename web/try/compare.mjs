@@ -54,7 +54,7 @@ async function compareProofs(assembler, root, name, index, asked) {
   for (const { query, r } of asked) theirs.push(await server.prove(r, query));
   await server.end();
   for (const [i, { query, r }] of asked.entries()) {
-    const terms = termsOf(query), ours = await assembler.ranked({ root, terms, r });
+    const terms = termsOf(query), [ours] = await assembler.ranked({ roots: [root], terms, r });
     same('proofs', name, { query, r }, ours, theirs[i]);
     check?.ranked(ours, root, query, terms, r);
   }
@@ -68,11 +68,11 @@ async function compare(name, texts, index, often) {
   for (const [i, { query, r }] of asked.entries()) {
     const terms = termsOf(query);
     if (i % often.prove === 0)
-      same('proofs', name, { query, r }, await assembler.ranked({ root, terms, r }),
+      same('proofs', name, { query, r }, (await assembler.ranked({ roots: [root], terms, r }))[0],
         stored('prove', index, 'tnra', `${r}`, query));
     const all = i % often.both === 0 && stored('prove-both', index, query);
     if (!all) continue;
-    const ours = await assembler.both({ root, terms });
+    const [ours] = await assembler.both({ roots: [root], terms });
     same('both', name, query, ours, all);
     check?.both(ours, root, query);
   }

@@ -1,6 +1,7 @@
 // A folder of this machine as a host, for Node.
 
-import { open } from 'node:fs/promises';
+import { open, readFile } from 'node:fs/promises';
+import { hostFault } from '../fault.mjs';
 
 export class FolderHost {
   constructor(folder) {
@@ -9,7 +10,8 @@ export class FolderHost {
 
   async read(path, from, to, question) {
     question?.began();
-    const file = await open(`${this.folder}/${path}`);
+    const gone = () => { throw hostFault('missing', path.replace(/.*\//, ''), 'not there'); };
+    const file = await open(`${this.folder}/${path}`).catch(gone);
     try {
       const { buffer, bytesRead } = await file.read(new Uint8Array(to - from), 0, to - from, from);
       question?.took(bytesRead);
@@ -18,6 +20,8 @@ export class FolderHost {
       await file.close();
     }
   }
+
+  file(path) { return readFile(`${this.folder}/${path}`).catch(() => undefined); }
 
   forget() {}
 }

@@ -5,6 +5,7 @@ import { execFileSync } from 'node:child_process';
 import { mkdirSync, writeFileSync } from 'node:fs';
 import { fileURLToPath } from 'node:url';
 import { Assembler } from '../assembler.mjs';
+import { joined } from '../bytes.mjs';
 import { MemoryCache } from '../cache.mjs';
 import { Fault } from '../fault.mjs';
 import { LIMITS } from '../question.mjs';
@@ -86,8 +87,10 @@ function lying(own, lie, one) {
 }
 
 const kinds = {
-  ranked: (assembler, own, { terms, r }) => assembler.ranked({ root: own.root, terms, r }),
-  both: (assembler, own, { terms }) => assembler.both({ root: own.root, terms }),
+  ranked: (assembler, own, { terms, r }) => assembler.ranked({ roots: [own.root], terms, r }).then(([proof]) => proof),
+  catalog: (assembler, own, { terms, r }) =>
+    assembler.ranked({ roots: [own.root, own.other.root], terms, r }).then(joined),
+  both: (assembler, own, { terms }) => assembler.both({ roots: [own.root], terms }).then(([proof]) => proof),
   text: (assembler, own, { doc }) => assembler.text({ root: own.root, doc }),
 };
 
@@ -110,7 +113,7 @@ const found = {}, count = (name, outcome) => { (found[name] ??= {})[outcome] = (
 let wrong = 0;
 for (let i = 0; i < Number(trials); i++) {
   const own = archives[draw(archives.length)], lie = Object.keys(lies)[draw(Object.keys(lies).length)];
-  const asked = { ...question(draw, own.texts), doc: draw(own.texts.length) }, kind = Object.keys(kinds)[draw(3)];
+  const asked = { ...question(draw, own.texts), doc: draw(own.texts.length) }, kind = Object.keys(kinds)[draw(4)];
   asked.terms = termsOf(asked.query);
   if (!asked.terms) continue;
   const ask = assembler => kinds[kind](assembler, own, asked), liar = lying(own, lie, 1 + draw(6)),

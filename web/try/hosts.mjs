@@ -13,7 +13,8 @@ import { termsOf } from './terms.mjs';
 
 const [folder, root, ...words] = process.argv.slice(2), terms = termsOf(words.join(' ')), r = 10;
 const limits = { ...LIMITS, silence: 2000, total: 8000 }; // a busy machine may be silent for a while itself
-const nearly = new Assembler([new FolderHost(folder)]), honest = await nearly.ranked({ root, terms, r });
+const nearly = new Assembler([new FolderHost(folder)]), roots = [root],
+      [honest] = await nearly.ranked({ roots, terms, r });
 const bomb = gzipSync(Buffer.alloc(2 ** 27));
 
 const file = request => readFile(folder + decodeURI(request.url));
@@ -172,7 +173,8 @@ async function served(answer, use) {
 
 async function outcome(hosts, how) {
   try {
-    return Buffer.compare(honest, await new Assembler(hosts, { limits }).ranked({ root, terms, r }, how))
+    const [got] = await new Assembler(hosts, { limits }).ranked({ roots, terms, r }, how);
+    return Buffer.compare(honest, got)
       ? 'other bytes'
       : 'honest';
   } catch (fault) {
@@ -203,7 +205,7 @@ await served(async (request, reply) => { await pause(20); await good(request, re
   const few = { ...limits, requests: 3 };
   const all = async () => {
     try {
-      await new Assembler([new HttpHost(base, few)], { limits: few }).both({ root, terms });
+      await new Assembler([new HttpHost(base, few)], { limits: few }).both({ roots, terms });
       return 'honest';
     } catch (fault) {
       return fault.word ?? fault.stack;

@@ -30,8 +30,8 @@ export async function compare(place, questions, isKept) {
     while (left.length) {
       const [i, it] = left.shift();
       try {
-        const bytes = await asked(source, it, { progress: () => { progress++; } });
-        if (await digestOf(bytes) === it.digest) equal++;
+        const got = await asked(source, it, { progress: () => { progress++; } });
+        if (await digestOf([got].flat()[0]) === it.digest) equal++;
         else failed.push(`${i} ${it.call}: other bytes`);
       } catch (fault) {
         failed.push(`${i} ${it.call}: ${fault.word ?? fault.name} ${fault.line ?? fault.message}`);
@@ -54,11 +54,14 @@ export async function fault(place, it, stopAfter) {
   return { word, ms: Math.round(performance.now() - start) };
 }
 
-/** Milliseconds of one question, from opening the source. */
-export async function timed(place, it, isKept) {
+/**
+ * Milliseconds of one question for the best documents, from opening the source, which starts a worker; the roots of a
+ * catalog are read before, and the heads with the question.
+ */
+export async function timed(place, { root, ...words }, isKept) {
   if (!isKept) await emptied();
-  const source = open(place), start = performance.now();
-  await asked(source, it);
+  const source = open(place), roots = await source.roots({ root }), start = performance.now();
+  await asked(source, { call: 'ranked', words: { ...words, roots } });
   const ms = Math.round(performance.now() - start);
   await new Promise(done => setTimeout(done, 200)); // what is kept is stored within a moment
   source.close();

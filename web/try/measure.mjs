@@ -1,12 +1,14 @@
-// Requests, rounds, bytes, milliseconds, and those of the processor, of questions. usage: node measure.mjs BASE ROOT
-// WORDS.json [ROUND_TRIP_MS BYTES_PER_MS] BASE is an address or a folder; WORDS.json has the words of the texts, the
-// most frequent first. The head is read before.
+// Requests, rounds, bytes, milliseconds, those of the processor, and those of the check, of questions. usage: node
+// measure.mjs BASE ROOT WORDS.json [ROUND_TRIP_MS BYTES_PER_MS] BASE is an address or a folder; ROOT is an archive's or
+// a catalog's; WORDS.json has the words of the texts, the most frequent first. The heads are read before.
 
 import { readFileSync } from 'node:fs';
 import { Assembler } from '../assembler.mjs';
+import { catalogFile } from '../catalog.mjs';
 import { HttpHost } from '../http.mjs';
 import { LIMITS } from '../question.mjs';
 import { FolderHost } from './folder.mjs';
+import { checkOf } from './module.mjs';
 import { termsOf } from './terms.mjs';
 
 const [base, root, wordsFile, trip = 0, rate = Infinity] = process.argv.slice(2);
@@ -51,37 +53,46 @@ const headOnly = () => {
   };
 };
 
-const plain = base.startsWith('http') ? new HttpHost(base, LIMITS) : new FolderHost(base);
-async function measured(label, ask) {
+const plain = base.startsWith('http') ? new HttpHost(base, LIMITS) : new FolderHost(base), check = await checkOf();
+const roots = await new Assembler([plain]).roots({ root }), isMany = roots[0] !== root;
+/** What is asked too much for one question is said so. */
+const measured = (...words) => measure(...words).catch(fault => {
+  if (fault.word !== 'input') throw fault;
+  console.log(`| ${words[0]} | ${fault.line} |`);
+});
+
+async function measure(label, ask, judge) {
   const host = new Counting(plain), assembler = new Assembler([host], { cache: headOnly() }), found = [];
-  await assembler.text({ root, doc: 0 });
-  let bytes;
+  await assembler.ranked({ roots, r: 1, terms: termsOf('zzzz') });
+  let got;
   for (let i = 0; i < times; i++) {
     host.zero();
     const start = performance.now(), before = process.cpuUsage();
-    bytes = await ask(assembler);
+    got = await ask(assembler);
     const { user, system } = process.cpuUsage(before);
     found.push([performance.now() - start, (user + system) / 1000]);
   }
   const { requests, rounds, bytes: fetched } = host.count,
                                            middle = i =>
                                              found.map(it => it[i]).sort((a, b) => a - b)[times >> 1].toFixed(0);
-  console.log(`| ${label} | ${bytes.length} | ${requests} / ${rounds} | ${fetched} | ${middle(0)} | ${middle(1)} |`);
+  const bytes = [got].flat().reduce((sum, { length }) => sum + length, 0);
+  console.log(`| ${label} | ${bytes} | ${requests} / ${rounds} | ${fetched} | ${middle(0)} | ${middle(1)} `
+    + `| ${judge && check ? judge(got).toFixed(0) : ''} |`);
 }
 
-const ranked = (label, ...places) => measured(
-  label, it => it.ranked({ root, r: 10, terms: termsOf(places.map(place => words[place] ?? place).join(' ')) }));
-const both = (label, ...places) =>
-  measured(label, it => it.both({ root, terms: termsOf(places.map(place => words[place]).join(' ')) }));
+const queryOf = places => places.map(place => words[place] ?? place).join(' ');
+const ranked = (label, ...places) => measured(label, it => it.ranked({ roots, r: 10, terms: termsOf(queryOf(places)) }),
+  proofs => check.milliseconds(isMany ? catalogFile(roots, proofs) : proofs[0], root, queryOf(places), 10, isMany));
+const both = (label, ...places) => measured(label, it => it.both({ roots, terms: termsOf(queryOf(places)) }));
 const FIVE = [10, 30, 100, 300, 1000];
-console.log('| question | bytes | requests / rounds | fetched | ms | processor ms |\n|---|---|---|---|---|---|');
+console.log(`| question | bytes | requests / rounds | fetched | ms | processor ms | check ms |\n${'|---'.repeat(7)}|`);
 await ranked('the most frequent word', 0);
 await ranked('the two most frequent', 0, 1);
 await ranked('a rare word', last);
 await ranked('an absent word', 'zzzz');
 await ranked('the most frequent and a rare one', 0, last);
 await ranked('five words', ...FIVE);
-await measured('a text', it => it.text({ root, doc: 1000 }));
+await measured('a text', it => it.text({ root: roots[0], doc: 1000 }));
 await both('all documents, with a rare word', 0, last);
 await both('all documents, with one of the 3,000 most frequent', 0, 3000);
 await both('all documents, with one of the 1,000 most frequent', 0, 1000);

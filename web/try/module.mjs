@@ -20,6 +20,11 @@ export async function checkOf() {
       accepted(it.check(proof, bytesOfHex(root), query, r), JSON.stringify(query));
       if (spelt(it.query(query).terms) !== spelt(terms)) throw new Error(`other terms of ${JSON.stringify(query)}`);
     },
+    milliseconds(proof, root, query, r, isCatalog) {
+      const got = it[isCatalog ? 'catalog' : 'check'](proof, bytesOfHex(root), query, r);
+      accepted(got, JSON.stringify(query));
+      return got.ms;
+    },
     both(proof, root, query) { accepted(it.both(proof, bytesOfHex(root), query), JSON.stringify(query)); },
     text(file, root, doc) { accepted(it.text(file, bytesOfHex(root), doc), `text ${doc}`); },
   };

@@ -9,7 +9,7 @@
     return height > 0 && top >= 0 && bottom <= innerHeight;
   };
   const rowsOf = it => ({
-    doc: Number(it.dataset.doc),
+    doc: it.dataset.doc.includes('-') ? it.dataset.doc : Number(it.dataset.doc),
     title: it.querySelector('.title').textContent,
     text: it.querySelector('.text').textContent,
     says: it.querySelector('.says').textContent,

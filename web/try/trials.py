@@ -3,6 +3,7 @@
 import base64
 import io
 import json
+import re
 import subprocess
 import tempfile
 import time
@@ -37,10 +38,11 @@ FORGETTING = """new Promise(done => {
 
 
 class Made(NamedTuple):
-    """An archive: its texts and its root."""
+    """An archive: its texts and its root. Or a catalog, with all texts of its archives, and each of these."""
 
     texts: "list[str]"
     root: str
+    shards: "tuple[Made, ...]" = ()
 
 
 class World(NamedTuple):
@@ -384,6 +386,113 @@ def try_links(browser: browsers.Browser, world: World, trial: Any) -> None:
     trial.see("may not ask" in text(browser, "state"), "a host that the page may not ask", text(browser, "state"))
 
 
+# ---- catalogs
+
+
+def best_of(world: World, made: Made, query: str) -> "list[tuple[str, int]]":
+    """The documents of all archives that have any word, the best first, with their scores: by `rank` of each."""
+    found = []
+    for number, shard in enumerate(made.shards):
+        with tempfile.NamedTemporaryFile("w", suffix=".json", encoding="utf-8") as collection:
+            json.dump(shard.texts, collection)
+            collection.flush()
+            words = [world.program, "rank", collection.name, "1000", query]
+            ran = subprocess.run(words, stdout=subprocess.PIPE, stderr=subprocess.DEVNULL, text=True, check=True)
+        found += [(f"{number}-{it[1]}", int(it[2])) for it in map(str.split, ran.stdout.splitlines())]
+    return sorted(found, key=lambda it: -it[1])
+
+
+def see_best(got: Any, best: "list[tuple[str, int]]", about: str, trial: Any) -> None:
+    """The rows are the best of these, within their bounds. Those that tie may come in any order."""
+    scores = dict(best)
+    for row, (_, wanted) in zip(got["rows"], best):
+        bounds = [int(it) for it in re.findall("[0-9]+", row["says"].split("score ")[1])]
+        right = scores[row["doc"]] == wanted and bounds[0] <= wanted <= bounds[-1] and row["checked"]
+        trial.see(right, f"{about}: row {row['doc']}", (row, wanted))
+
+
+def try_catalogs(browser: browsers.Browser, world: World, trial: Any) -> None:
+    made = world.archives["catalog"]
+    page(browser, world, "catalog")
+    for query in (QUERY, "the", "the court", "zugzwang"):
+        best = best_of(world, made, query)
+        got = ask(browser, query)
+        trial.see(got["kind"] == "good" and len(got["rows"]) == min(10, len(best)), f"a catalog: {query}", got)
+        see_best(got, best, query, trial)
+        if got["more"]:
+            said = f"the best 10 of {len(made.texts)} documents in 3 archives"
+            trial.see(said in got["verdict"], query, got["verdict"])
+            see_best(do(browser, "more"), best, f"{query}, ten more", trial)
+        own = [{doc for doc, _ in best_of(world, made, word)} for word in query.split()]
+        got = ask(browser, query, True)
+        trial.see({it["doc"] for it in got["rows"]} <= set.intersection(*own), f"all with {query}", got)
+        said = f"✓ Checked: {len(set.intersection(*own))} of ".replace("✓ Checked: 0 of ", "✓ No document has")
+        trial.see(got["kind"] == "good" and got["verdict"].startswith(said), query, got["verdict"])
+    got = ask(browser, '"blood count"')
+    texts = [(f"{i}-{k}", text) for i, it in enumerate(made.shards) for k, text in enumerate(it.texts)]
+    own = [name for name, text in texts if "blood count" in text.lower()]
+    trial.see([it["doc"] for it in got["rows"]] == own and len(own) > 0, "words together in a catalog", got)
+    shard, doc = map(int, own[0].split("-"))
+    got = do(browser, "open", at=0)
+    trial.see(got["text"] == made.shards[shard].texts[doc], "a whole text of a catalog", got)
+    trial.see(f"Document {doc} of archive {shard}, " in got["said"], "which one it is", got["said"])
+    cited, link = do(browser, "copied", id="cite"), browser.run("location.href")
+    trial.see(made.root in cited and f"Document {doc} of archive {shard} of the catalog" in cited, "to cite it", cited)
+    opened(browser, link, "The link has a question. Press Search.")
+    press(browser, "go")
+    browsers.wait(lambda: browser.run("!document.getElementById('whole').hidden"))
+    trial.see(do(browser, "whole")["text"] == made.shards[shard].texts[doc], "a link to a text of a catalog", link)
+
+
+def try_catalog_lies(browser: browsers.Browser, world: World, trial: Any) -> None:
+    """Hosts that lie about the list of roots or in one archive, or do not have it."""
+    roots = [it.root for it in world.archives["catalog"].shards]
+
+    def swapped(request: hosts.Request, reply: hosts.Reply) -> hosts.Reply:
+        one, other = (it.encode() for it in roots[:2])
+        body = reply.body.replace(one, b"-").replace(other, one).replace(b"-" + b"\n", other + b"\n")
+        return reply._replace(body=body) if request.name == "publication.txt" else reply
+
+    def in_one(lie: hosts.Act) -> hosts.Act:
+        return lambda request, reply: lie(request, reply) if roots[1] in request.path else reply
+
+    lies = {it: in_one(hosts.about(("head", "dictionary", "lists"), lie)) for it, lie in hosts.LIES.items()}
+    for about, lie in {**lies, "other roots": swapped}.items():
+        root = page(browser, world, "catalog")
+        world.host.act = lie
+        opened(browser, f"{world.host.base}/#root={root}")
+        got = ask(browser, QUERY)
+        named = "Archive 1: " in got["said"] or got["line"].endswith("roots of another catalog")
+        trial.see(got["kind"] == "bad" and not got["rows"] and named, f"{browser.name}: a catalog, {about}", got)
+        world.host.act = hosts.honest
+        got = ask(browser, QUERY)
+        trial.see(got["kind"] == "good" and got["rows"], f"{browser.name}: a catalog, honest after {about}", got)
+    got = do(browser, "lie")
+    trial.see(got["kind"] == "bad" and got["line"].startswith("refused: "), "a lie about a catalog", got)
+
+
+def try_catalog_growth(browser: browsers.Browser, world: World, trial: Any) -> None:
+    made, grown = world.archives["catalog"], world.archives["catalog grown"]
+    before, after = (len(it.shards[2].texts) for it in (made, grown))
+    world.host.folders[1] = world.shelves["catalog grown"]
+    page(browser, world, "catalog")
+    got = do(browser, "newer")
+    said = f"✓ Archive 2 grew from {before} to {after} documents; archives were added, 3 before and now 4; nothing was "
+    trial.see(got["verdict"] == f"{said}withdrawn" and got["root"] == grown.root, "a catalog that grew", got)
+    trial.see("in 3 archives" in ask(browser, "the")["verdict"], "an answer under the old catalog", got)
+    press(browser, "take")
+    got = ask(browser, "the")
+    trial.see("in 4 archives" in got["verdict"] and got["kind"] == "good", "an answer under the new catalog", got)
+    world.host.folders[1] = world.shelves["became a catalog"]
+    page(browser, world, "first")
+    got = do(browser, "newer")
+    trial.see(got["take"] and "rchives were added, 1 before and now 2" in got["verdict"], "what became a catalog", got)
+    world.host.folders[1] = world.shelves["catalog forked"]
+    page(browser, world, "catalog")
+    got = do(browser, "newer")
+    trial.see(got["verdict"] == "✗ The host offers another archive" and not got["take"], "a catalog that forked", got)
+
+
 # ---- roots
 
 
@@ -433,36 +542,45 @@ def try_growth(browser: browsers.Browser, world: World, trial: Any) -> None:
 
 def try_saving(browser: browsers.Browser, world: World, trial: Any) -> None:
     """Saves answers of both ways, and has the program check them as their own file says."""
-    root = page(browser, world)
-    for query, all_of in ((QUERY, False), ("it's a 'quoted' $(court) `x` \"count", False), ("the court", True)):
-        got = ask(browser, query, all_of)
-        data = base64.b64decode(do(browser, "save")["base64"])
-        world.saved[f"{browser.name} {query}"] = data
-        with tempfile.TemporaryDirectory() as name, zipfile.ZipFile(io.BytesIO(data)) as it:
-            trial.see(it.testzip() is None, "a ZIP file that is whole")
-            it.extractall(name)
-            (Path(name) / "ats").symlink_to(Path(world.program).resolve())
-            commands = [
-                line for line in (Path(name) / "how-to-check.txt").read_text().splitlines() if line.startswith("./ats ")
-            ]
-            ran = [
-                subprocess.run(
-                    ["sh", "-c", it], cwd=name, stdout=subprocess.PIPE, stderr=subprocess.DEVNULL, check=False
-                )
-                for it in commands
-            ]
-        trial.see(
-            all(it.returncode == 0 for it in ran) and len(ran) == 1 + len(got["rows"]),
-            "the commands of a saved proof",
-            commands,
-        )
-        lines = [it.split(" ") for it in ran[0].stdout.decode().splitlines()]
-        trial.see(
-            [int(it[1] if len(it) > 1 else it[0]) for it in lines] == [it["doc"] for it in got["rows"]],
-            "what they say",
-            lines,
-        )
-        trial.see(root in commands[0], "the root in them")
+    for name in ("catalog", "first"):
+        page(browser, world, name)
+        for query, all_of in ((QUERY, False), ("it's a 'quoted' $(court) `x` \"count", False), ("the court", True)):
+            save(browser, world, name, query, all_of, trial)
+
+
+def save(browser: browsers.Browser, world: World, name: str, query: str, all_of: bool, trial: Any) -> None:
+    made = world.archives[name]
+    got = ask(browser, query, all_of)
+    data = base64.b64decode(do(browser, "save")["base64"])
+    world.saved[f"{browser.name} {name} {query}"] = data
+    ran = commands_in(data, world.program, trial)
+    proofs = len(made.shards) if made.shards and all_of else 1
+    trial.see(
+        all(it.returncode == 0 for it in ran) and len(ran) == bool(made.shards) + proofs + len(got["rows"]),
+        "the commands of a saved proof",
+        ran,
+    )
+    if made.shards:
+        trial.see(ran.pop(0).stdout.decode() == f"{made.root}\n", "the catalog's root of a saved proof")
+    lines = [it.split(" ") for each in ran[:proofs] for it in each.stdout.decode().splitlines()]
+    docs = [str(it["doc"]).split("-")[-1] for it in got["rows"]]
+    trial.see([it[0] if all_of else it[-3] for it in lines] == docs, "what they say", (lines, docs))
+    trial.see(made.root in ran[0].args[-1] or all_of, "the root in them")
+
+
+def commands_in(data: bytes, program: str, trial: Any) -> "list[subprocess.CompletedProcess[bytes]]":
+    """What the commands do that a saved proof has."""
+    with tempfile.TemporaryDirectory() as name, zipfile.ZipFile(io.BytesIO(data)) as it:
+        trial.see(it.testzip() is None, "a ZIP file that is whole")
+        it.extractall(name)
+        (Path(name) / "ats").symlink_to(Path(program).resolve())
+        commands = [
+            line for line in (Path(name) / "how-to-check.txt").read_text().splitlines() if line.startswith("./ats ")
+        ]
+        return [
+            subprocess.run(["sh", "-c", it], cwd=name, stdout=subprocess.PIPE, stderr=subprocess.DEVNULL, check=False)
+            for it in commands
+        ]
 
 
 def try_opening(browser: browsers.Browser, world: World, trial: Any) -> None:
@@ -629,6 +747,9 @@ def try_built_in(browser: browsers.Browser, world: World, trial: Any) -> None:
 
 TRIALS = (
     try_answers,
+    try_catalogs,
+    try_catalog_lies,
+    try_catalog_growth,
     try_questions,
     try_phrases,
     try_whole,
