@@ -3,17 +3,44 @@
 
 bundle.py NAME FILE    writes the file of NAME.mjs; as a module, `bundle(NAME)` returns its bytes
 
-Each module becomes a function that returns what it exports, so that its other names stay its own. Comments and indents
-are left out. """
+So no two of them may have a name in common outside of functions and classes: such a file is no module. Comments are
+left out, functions and classes that nothing else names, and spaces that no two words need. """
 
 import re
 import sys
 from pathlib import Path
 
 HERE = Path(__file__).resolve().parent
-IMPORT = re.compile(r"^import (?:(\{[^}]*\})|(\* as \w+)) from '\./(\w+)\.mjs';\n", re.M)
-EXPORTED = re.compile(r"^export (?:async )?(?:function\*?|class|const|let) ([\w$]+)", re.M)
+IMPORT = re.compile(r"^import \{[^}]*\} from '\./(\w+)\.mjs';\n", re.M)
+EXPORT = re.compile(r"^export ", re.M)
 COMMENT = re.compile(r"^ *(?://.*|/\*\*(?s:.*?)\*/)\n|/\*\*(?s:.*?)\*/ ?|(?<=[;,{]) // .*$|^\n", re.M)
+
+PART = re.compile(r"^(?=[a-z])", re.M)
+NAMED = re.compile(r"(?:async )?(?:function\*?|class) ([\w$]+)|const ([\w$]+) = (?:async )?(?:\w+|\([^()]*\)) =>")
+
+# Strings, templates with one more inside, and regular expressions, which come after a sign and not after a value.
+LITERAL = re.compile(
+    r"""('(?:\\.|[^'\\])*'|"(?:\\.|[^"\\])*"|`(?:\\.|\$\{(?:[^{}`]|`[^`]*`|\{[^{}]*\})*\}|[^`\\])*`"""
+    r"""|(?:(?<=[(,=:\[!&|?{;>])|(?<=[(,=:\[!&|?{;>]\ ))/(?:\\.|\[(?:\\.|[^\]\\])*\]|[^/\\\n\[])+/[a-z]*)"""
+)
+
+
+def squeezed(text: str) -> str:
+    """The same without the spaces beside signs. Statements end with a semicolon or a brace, so no line has to end."""
+    parts = LITERAL.split(text)
+    parts[::2] = [re.sub(r"\s*([^\w\s$#])\s*", r"\1", re.sub(r"\s+", " ", it)).strip() for it in parts[::2]]
+    return "".join(parts)
+
+
+def used(text: str) -> str:
+    """Without the functions and classes that no other part of it names."""
+    parts = PART.split(text)
+    for part in parts:
+        found = NAMED.match(part)
+        word = re.compile(rf"(?<![\w$]){re.escape(found[1] or found[2])}(?![\w$])") if found else None
+        if word and not any(word.search(other) for other in parts if other is not part):
+            return used("".join(other for other in parts if other is not part))
+    return text
 
 
 def in_order(name: str, found: "dict[str, str]") -> "dict[str, str]":
@@ -21,24 +48,13 @@ def in_order(name: str, found: "dict[str, str]") -> "dict[str, str]":
     if name not in found:
         text = COMMENT.sub("", (HERE / f"{name}.mjs").read_text(encoding="utf-8"))
         for match in IMPORT.finditer(text):
-            in_order(match.group(3), found)
-        found[name] = text
+            in_order(match.group(1), found)
+        found[name] = EXPORT.sub("", IMPORT.sub("", text))
     return found
 
 
-def wrapped(name: str, text: str) -> str:
-    """A module whose names stay its own: what it exports becomes one object."""
-    takes = "".join(
-        f"const {(everything or names).replace('* as ', '')} = ${source};\n"
-        for names, everything, source in IMPORT.findall(text)
-    )
-    inner = re.sub(r"^ *(export )?", "", IMPORT.sub("", text), flags=re.M).strip()
-    exported = ", ".join(EXPORTED.findall(text))
-    return f"const ${name} = (() => {{\n{takes}{inner}\nreturn {{ {exported} }};\n}})();\n"
-
-
 def bundle(name: str) -> bytes:
-    return "\n".join(wrapped(*it) for it in in_order(name, {}).items()).encode()
+    return squeezed(used("\n".join(in_order(name, {}).values()))).encode()
 
 
 if __name__ == "__main__":

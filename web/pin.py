@@ -44,6 +44,12 @@ def filled(files: "dict[str, bytes]", said: argparse.Namespace) -> bytes:
     return template.encode()
 
 
+def styles() -> str:
+    """The style sheet without comments, and without spaces beside signs that end something."""
+    bare = re.sub(r"/\*.*?\*/", "", (HERE / "page.css").read_text(encoding="utf-8"), flags=re.S)
+    return re.sub(r"\s*([{};,])\s*|(?<=:) ", r"\1", bare)
+
+
 def packed(files: "dict[str, bytes]") -> int:
     return sum(len(gzip.compress(data, 9, mtime=0)) for data in files.values())
 
@@ -66,7 +72,7 @@ def words() -> argparse.Namespace:
 
 def main(said: argparse.Namespace) -> None:
     files = {f"{name}.mjs": bundle.bundle(name) for name in BUNDLES}
-    files.update({"page.css": (HERE / "page.css").read_bytes(), "page.wasm": said.module.read_bytes()})
+    files.update({"page.css": styles().encode(), "page.wasm": said.module.read_bytes()})
     files["index.html"] = filled(files, said)
     shutil.rmtree(said.out, ignore_errors=True)
     said.out.mkdir(parents=True)
