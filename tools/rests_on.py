@@ -9,8 +9,8 @@ usage: tools/rests_on.py COMMAND        such as verify
 
 A definition rests on each name in it that is in scope there, and on all that these rest on. What follows a point is a
 field and does not count. A name counts even if a variable shadows it. A call rests on the names in its signature and
-its clauses. `verify`, `ask`, `fetch`, `both` and `growth` rest on their clause of the law LAW, with the comment of the
-law. The premise `Ran` of a law is not followed: the contract of `run` returns it and the law takes it, so what both say
+its clauses. `verify`, `ask`, `fetch`, `both`, `growth` and `catalog` rest on their clause of the law LAW, with its
+comment. The premise `Ran` of a law is not followed: the contract of `run` returns it and the law takes it, so what both say
 together does not depend on it. Any other command rests on the definition that docs/theorems.md quotes for its status 0
 (COMMANDS), and `Ran`, which says when a status is returned, is a definition of its own.
 
@@ -37,7 +37,7 @@ from typing import Collection, Iterable, Iterator, Optional, Sequence, Union
 HOUSE = pathlib.Path(__file__).resolve().parent.parent
 CRATES = sorted(folder.name for folder in (HOUSE / "crates").iterdir() if (folder / "src").is_dir())
 LAW = "printed_answers_are_right"
-BY_LAW = ("verify", "ask", "fetch", "both", "growth")
+BY_LAW = ("verify", "ask", "fetch", "both", "growth", "catalog")
 COMMANDS = {
     "rank": "IsRanked",
     "build": "IsBuilt",
