@@ -181,8 +181,8 @@ module _ (H : List ℕ → List ℕ) (archive : Archive) (query : List (List ℕ
 pub honest_own : (H : List ℕ → List ℕ) (archive : Archive) (query : List (List ℕ × ℕ)) (r : ℕ) (algorithm : Algorithm) (proof : Proof)
     → (algorithm ≡ Tra → 1 ≤ length archive.texts) → IsHonest H archive query r algorithm proof → All (IsOurs (ours H archive query)) (strings_of H query proof)
 honest_own H archive query r algorithm proof some honest =
-    shown_own H archive query algorithm honest.cut (docs_of honest.brackets) proof (honest_cut H archive query r algorithm proof honest)
-    (honest_met H archive query r algorithm proof honest) honest.shows
+    shown_own H archive query algorithm honest.cut (docs_of honest.brackets) proof (honest_cut _ _ H archive query algorithm proof honest)
+    (honest_met _ _ H archive query algorithm proof honest) honest.shows
 
 pub honest_unclashing : (H : List ℕ → List ℕ) (archive : Archive) (query : List (List ℕ × ℕ)) (r : ℕ) (algorithm : Algorithm) (proof : Proof)
     → (algorithm ≡ Tra → 1 ≤ length archive.texts) → IsHonest H archive query r algorithm proof → proof_collision H archive query proof ≡ None

@@ -3,29 +3,29 @@ use Rattle.std.proofs.Common.{◌+◌, ℕ, suc, List, set, get_or, refl, sym, s
 use Rattle.std.proofs.lemmas.Bool.{cases_order}
 use Rattle.ats_bound.specs.declared.walk.Walk.{Walk}
 use Rattle.ats_bound.specs.Settled.{IsSettled}
-use Rattle.ats_bound.specs.Schedule.{WholeLane, Bounding, IsNextLane, IsScheduled, CanSettleBy, IsFirstSettledBy, first_cut}
+use Rattle.ats_bound.specs.Schedule.{WholeLane, Bounding, IsNextLane, IsScheduled, CanSettleBy, IsFirstCut, IsFirstSettledBy, first_cut}
 use Rattle.ats_bound.specs.Stand.{IsStand}
 use Rattle.ats_bound.specs.Inner.Stand.{IsEnd, IsReached}
 use Rattle.ats_bound.proofs.OneCut.{one_schedule}
 
 -- the walk begins at the first cut
-pub reached_first : (bounds : Bounding) (lanes : List WholeLane) (r : ℕ) → IsReached bounds lanes r (first_cut lanes)
-reached_first bounds lanes r = record {
+pub reached_first : (Stops : List ℕ → Type 0) (lanes : List WholeLane) → IsReached Stops lanes (first_cut lanes)
+reached_first Stops lanes = record {
   turns = 0;
   scheduled = refl;
   none = λ n earlier less is can. omega (arith, less);
 }
 
--- if no answer is settled, the walk goes on with the next cut
-pub reached_after : (bounds : Bounding) (lanes : List WholeLane) (r : ℕ) (cut : List ℕ) (i : ℕ) → IsReached bounds lanes r cut → (CanSettleBy bounds lanes r cut → ⊥)
-    → IsNextLane lanes cut i → IsReached bounds lanes r (set cut i (get_or cut i 0 + 1))
-reached_after bounds lanes r cut i reached cannot next = record {
+-- if it does not stop, the walk goes on with the next cut
+pub reached_after : (Stops : List ℕ → Type 0) (lanes : List WholeLane) (cut : List ℕ) (i : ℕ) → IsReached Stops lanes cut → (Stops cut → ⊥)
+    → IsNextLane lanes cut i → IsReached Stops lanes (set cut i (get_or cut i 0 + 1))
+reached_after Stops lanes cut i reached cannot next = record {
   turns = suc reached.turns;
   scheduled = (cut, reached.scheduled, record { place = i; next = next; counts = refl });
   none = λ n earlier less is can. elim (cases_order n reached.turns) [
     | inl same ↦
         let here : IsScheduled lanes reached.turns earlier = subst (λ (m : ℕ). IsScheduled lanes m earlier) same is in
-        cannot (subst (λ (c : List ℕ). CanSettleBy bounds lanes r c) (one_schedule lanes reached.turns earlier cut here reached.scheduled) can)
+        cannot (subst Stops (one_schedule lanes reached.turns earlier cut here reached.scheduled) can)
     | inr other ↦ elim other [
       | inl before ↦ reached.none n earlier before is can
       | inr after ↦ absurd (omega (arith, less, after))
@@ -33,22 +33,26 @@ reached_after bounds lanes r cut i reached cannot next = record {
   ];
 }
 
--- if it is settled, the walk ends
-pub end_at : (bounds : Bounding) (lanes : List WholeLane) (r : ℕ) (cut : List ℕ) (walk : Walk) → IsReached bounds lanes r cut → IsStand bounds lanes r cut walk
+-- if it stops, this cut is the first
+pub first_here : (Stops : List ℕ → Type 0) (lanes : List WholeLane) (cut : List ℕ) → IsReached Stops lanes cut → Stops cut → IsFirstCut Stops lanes cut
+first_here Stops lanes cut reached stops = record {
+  turns = reached.turns;
+  scheduled = reached.scheduled;
+  stops = stops;
+  first = reached.none;
+}
+
+-- if an answer is settled, the walk ends
+pub end_at : (bounds : Bounding) (lanes : List WholeLane) (r : ℕ) (cut : List ℕ) (walk : Walk) → IsReached (CanSettleBy bounds lanes r) lanes cut → IsStand bounds lanes r cut walk
     → IsSettled walk.brackets walk.picks walk.threshold r → IsEnd bounds lanes r walk
 end_at bounds lanes r cut walk reached stand settled =
-    let here : IsFirstSettledBy bounds lanes r cut = record {
-      turns = reached.turns;
-      scheduled = reached.scheduled;
-      settled = record {
-        brackets = walk.brackets;
-        bounded = stand.brackets;
-        answer = walk.picks;
-        inside = stand.inside;
-        settled = subst (λ (t : ℕ). IsSettled walk.brackets walk.picks t r) stand.threshold settled;
-      };
-      first = reached.none;
-    } in
+    let here : IsFirstSettledBy bounds lanes r cut = first_here (CanSettleBy bounds lanes r) lanes cut reached (record {
+      brackets = walk.brackets;
+      bounded = stand.brackets;
+      answer = walk.picks;
+      inside = stand.inside;
+      settled = subst (λ (t : ℕ). IsSettled walk.brackets walk.picks t r) stand.threshold settled;
+    }) in
     record {
       first = subst (λ (c : List ℕ). IsFirstSettledBy bounds lanes r c) (sym stand.cut) here;
       stand = subst (λ (c : List ℕ). IsStand bounds lanes r c walk) (sym stand.cut) stand;

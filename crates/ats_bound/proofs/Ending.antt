@@ -7,11 +7,12 @@ use Rattle.ats_bound.specs.declared.bracket.Bracket.{Bracket}
 use Rattle.ats_bound.specs.Cut.{ShownLane, bracket, lo_of, missing, rest, threshold}
 use Rattle.ats_bound.specs.Settled.{bracket_at}
 use Rattle.ats_bound.specs.Narrow.{AreNarrow}
-use Rattle.ats_bound.specs.Schedule.{WholeLane, Bounding, AreWholeLanes, CanSettleBy, IsCut, IsFirstSettledBy, IsNextLane, first_cut, shown}
+use Rattle.ats_bound.specs.Schedule.{WholeLane, Bounding, AreWholeLanes, CanSettleBy, IsCut, IsFirstCut, IsFirstSettledBy, IsNextLane, first_cut, shown}
 use Rattle.ats_bound.specs.Inner.Stand.{IsReached}
 use Rattle.ats_bound.specs.Lookup.{Table, looked_up}
-use Rattle.ats_bound.proofs.Advance.{reached_first, reached_after}
+use Rattle.ats_bound.proofs.Advance.{first_here, reached_first, reached_after}
 use Rattle.ats_bound.proofs.Chain.{chosen_are_picks, even_settled}
+use Rattle.ats_bound.proofs.Decided.{IsDecided}
 use Rattle.ats_bound.proofs.Deciding.{decided_can_settle}
 use Rattle.ats_bound.proofs.Gathered.{brackets_exist}
 use Rattle.ats_bound.proofs.Greatest.{IsGreatest, none_yet, greater, no_greater, none_left, next_at}
@@ -52,13 +53,58 @@ next_or_none lanes cut is =
     let found = has_greatest (shown lanes cut) (length lanes) (omega (arith, length-shown lanes cut is.size)) in
     next_from lanes cut found.0 found.1 is found.2
 
-module _ (bounds : Bounding) (lanes : List WholeLane) (r : ℕ) (narrow : AreNarrow bounds) (whole : AreWholeLanes lanes) where
+-- a walk ends, if it is decided at each cut whether it stops there, and it stops where nothing that is not shown can add
+-- to a score
+module _ (Stops : List ℕ → Type 0) (lanes : List WholeLane) (decided : (cut : List ℕ) → IsDecided (Stops cut))
+    (at_none : (cut : List ℕ) → IsCut lanes cut → threshold (shown lanes cut) ≡ 0 → Stops cut) where
   abbrev left : List ℕ → ℕ
   left cut = sum_by hidden (shown lanes cut)
 
+  abbrev IsEnd : List ℕ → Type 0
+  IsEnd cut = IsFirstCut Stops lanes cut
+
+  -- a later cut that shows more
+  record IsLater (cut after : List ℕ) : Type 0 where
+    cuts : IsCut lanes after
+    fewer : left after < left cut
+    reached : IsReached Stops lanes after
+
+  end_or_more : (cut : List ℕ) → IsCut lanes cut → IsReached Stops lanes cut → IsEnd cut ⊎ ((after : List ℕ) × IsLater cut after)
+  end_or_more cut is reached = elim (decided cut) [
+    | inl can ↦ inl (first_here Stops lanes cut reached can)
+    | inr cannot ↦ elim (next_or_none lanes cut is) [
+      | inl none ↦ absurd (cannot (at_none cut is none))
+      | inr next ↦ inr (
+        set cut next.0 (get_or cut next.0 0 + 1),
+        record {
+          cuts = cut_after lanes cut next.0 is next.1.inside next.1.more;
+          fewer = fewer_hidden lanes cut next.0 is next.1.inside next.1.more;
+          reached = reached_after Stops lanes cut next.0 reached cannot next.1;
+        },
+      )
+    ]
+  ]
+
+  -- if at most `most` entries are not shown
+  ends : (most : ℕ) (cut : List ℕ) → left cut ≤ most → IsCut lanes cut → IsReached Stops lanes cut → (end : List ℕ) × IsEnd end
+  ends zero cut few is reached = elim (end_or_more cut is reached) [
+    | inl end ↦ (cut, end)
+    | inr later ↦ absurd (omega (arith, later.1.fewer, few))
+  ]
+  ends (suc most) cut few is reached = elim (end_or_more cut is reached) [
+    | inl end ↦ (cut, end)
+    | inr later ↦ ends most later.0 (omega (arith, later.1.fewer, few)) later.1.cuts later.1.reached
+  ]
+
+  -- there is a first cut at which it stops
+  pub first_exists : AreWholeLanes lanes → (cut : List ℕ) × IsFirstCut Stops lanes cut
+  first_exists whole =
+      ends (sum_by hidden (shown lanes (first_cut lanes))) (first_cut lanes) (omega arith) (first_is_cut lanes (have_entries lanes whole)) (reached_first Stops lanes)
+
+module _ (bounds : Bounding) (lanes : List WholeLane) (r : ℕ) (narrow : AreNarrow bounds) where
   -- if nothing that is not shown can add to a score, an answer is settled
-  settled_at_none : (cut : List ℕ) → threshold (shown lanes cut) ≡ 0 → CanSettleBy bounds lanes r cut
-  settled_at_none cut none =
+  settled_at_none : (cut : List ℕ) → IsCut lanes cut → threshold (shown lanes cut) ≡ 0 → CanSettleBy bounds lanes r cut
+  settled_at_none cut _ none =
       let made = brackets_exist bounds (shown lanes cut) (λ doc. (narrow (shown lanes cut) doc).of) in
       let brackets : List Bracket = made.0 in
       let chosen = chosen_exists brackets r in
@@ -74,47 +120,11 @@ module _ (bounds : Bounding) (lanes : List WholeLane) (r : ℕ) (narrow : AreNar
         settled = rw (none, chosen.1.first) (even_settled brackets r chosen.1.all even chosen.1.same chosen.1.ordered);
       }
 
-  abbrev IsEnd : List ℕ → Type 0
-  IsEnd cut = IsFirstSettledBy bounds lanes r cut
-
-  -- a later cut that shows more
-  record IsLater (cut after : List ℕ) : Type 0 where
-    cuts : IsCut lanes after
-    fewer : left after < left cut
-    reached : IsReached bounds lanes r after
-
-  end_or_more : (cut : List ℕ) → IsCut lanes cut → IsReached bounds lanes r cut → IsEnd cut ⊎ ((after : List ℕ) × IsLater cut after)
-  end_or_more cut is reached = elim (decided_can_settle bounds lanes r cut (narrow (shown lanes cut))) [
-    | inl can ↦ inl (record { turns = reached.turns; scheduled = reached.scheduled; settled = can; first = reached.none })
-    | inr cannot ↦ elim (next_or_none lanes cut is) [
-      | inl none ↦ absurd (cannot (settled_at_none cut none))
-      | inr next ↦ inr (
-        set cut next.0 (get_or cut next.0 0 + 1),
-        record {
-          cuts = cut_after lanes cut next.0 is next.1.inside next.1.more;
-          fewer = fewer_hidden lanes cut next.0 is next.1.inside next.1.more;
-          reached = reached_after bounds lanes r cut next.0 reached cannot next.1;
-        },
-      )
-    ]
-  ]
-
-  -- if at most `most` entries are not shown
-  ends : (most : ℕ) (cut : List ℕ) → left cut ≤ most → IsCut lanes cut → IsReached bounds lanes r cut → (end : List ℕ) × IsEnd end
-  ends zero cut few is reached = elim (end_or_more cut is reached) [
-    | inl end ↦ (cut, end)
-    | inr later ↦ absurd (omega (arith, later.1.fewer, few))
-  ]
-  ends (suc most) cut few is reached = elim (end_or_more cut is reached) [
-    | inl end ↦ (cut, end)
-    | inr later ↦ ends most later.0 (omega (arith, later.1.fewer, few)) later.1.cuts later.1.reached
-  ]
-
 -- there is a first settled cut
 pub first_settled_exists : (bounds : Bounding) (lanes : List WholeLane) (r : ℕ) → AreNarrow bounds → AreWholeLanes lanes → (cut : List ℕ) × IsFirstSettledBy bounds lanes r cut
 first_settled_exists bounds lanes r narrow whole =
-    let some = have_entries lanes whole in
-    ends bounds lanes r narrow whole (sum_by hidden (shown lanes (first_cut lanes))) (first_cut lanes) (omega arith) (first_is_cut lanes some) (reached_first bounds lanes r)
+    first_exists (CanSettleBy bounds lanes r) lanes (λ cut. decided_can_settle bounds lanes r cut (narrow (shown lanes cut)))
+    (settled_at_none bounds lanes r narrow) whole
 
 -- brackets from the shown entries only are narrow
 pub brackets_are_narrow : AreNarrow bracket

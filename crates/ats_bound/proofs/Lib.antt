@@ -34,3 +34,5 @@ mod KnownSteps
 mod Open
 mod RunningSettled
 mod AllShown
+mod Within
+mod Once

@@ -1,7 +1,7 @@
 -- The schedule has one cut after each number of turns, and so one first settled cut.
 use Rattle.std.proofs.Common.{◌≡◌, ◌+◌, ℕ, zero, suc, List, set, get_or, sym, ap, subst, ◌∙◌, arith, inl, inr}
 use Rattle.std.proofs.lemmas.Bool.{cases_order}
-use Rattle.ats_bound.specs.Schedule.{WholeLane, IsNextLane, IsTurn, IsScheduled, Bounding, IsFirstSettledBy}
+use Rattle.ats_bound.specs.Schedule.{WholeLane, IsNextLane, IsTurn, IsScheduled, Bounding, CanSettleBy, IsFirstCut, IsFirstSettledBy}
 
 -- only one list is next
 pub one_next : (lanes : List WholeLane) (cut : List ℕ) (i j : ℕ) → IsNextLane lanes cut i → IsNextLane lanes cut j → i ≡ j
@@ -25,12 +25,15 @@ one_schedule lanes (suc n) a b first second =
     let same : first.0 ≡ second.0 = one_schedule lanes n first.0 second.0 first.1 second.1 in
     one_turn lanes second.0 a b (subst (λ (cut : List ℕ). IsTurn lanes cut a) same first.2) second.2
 
--- of two first settled cuts neither is before the other
-pub one_first_settled : (bounds : Bounding) (lanes : List WholeLane) (r : ℕ) (a b : List ℕ) → IsFirstSettledBy bounds lanes r a → IsFirstSettledBy bounds lanes r b → a ≡ b
-one_first_settled bounds lanes r a b first second = elim (cases_order first.turns second.turns) [
+-- of two first cuts neither is before the other
+pub one_first : (Stops : List ℕ → Type 0) (lanes : List WholeLane) (a b : List ℕ) → IsFirstCut Stops lanes a → IsFirstCut Stops lanes b → a ≡ b
+one_first Stops lanes a b first second = elim (cases_order first.turns second.turns) [
   | inl same ↦ one_schedule lanes second.turns a b (subst (λ (n : ℕ). IsScheduled lanes n a) same first.scheduled) second.scheduled
   | inr other ↦ elim other [
-    | inl less ↦ absurd (second.first first.turns a less first.scheduled first.settled)
-    | inr greater ↦ absurd (first.first second.turns b greater second.scheduled second.settled)
+    | inl less ↦ absurd (second.first first.turns a less first.scheduled first.stops)
+    | inr greater ↦ absurd (first.first second.turns b greater second.scheduled second.stops)
   ]
 ]
+
+pub one_first_settled : (bounds : Bounding) (lanes : List WholeLane) (r : ℕ) (a b : List ℕ) → IsFirstSettledBy bounds lanes r a → IsFirstSettledBy bounds lanes r b → a ≡ b
+one_first_settled bounds lanes r a b = one_first (CanSettleBy bounds lanes r) lanes a b

@@ -86,6 +86,12 @@ pub use Rattle.ats_bound.proofs.Shown.{scheduled_is_cut}
 pub use Rattle.ats_bound.proofs.Shown.{whole_at}
 -- a walk at a reached cut is at its end if its chosen answer is settled
 pub use Rattle.ats_bound.proofs.Advance.{end_at}
+-- a cut that is reached and at which the walk stops is the first such cut
+pub use Rattle.ats_bound.proofs.Advance.{first_here}
+-- two first cuts of one schedule are equal, whatever the walk stops at
+pub use Rattle.ats_bound.proofs.OneCut.{one_first}
+-- a walk that is decided and stops where the threshold is 0 has a first cut
+pub use Rattle.ats_bound.proofs.Ending.{first_exists}
 -- if no answer is settled at a reached cut, the next cut of the schedule is reached
 pub use Rattle.ats_bound.proofs.Advance.{reached_after}
 -- the first cut of the schedule is reached, as no cut comes before it
@@ -100,3 +106,7 @@ pub use Rattle.ats_bound.proofs.Ending.{brackets_are_narrow}
 pub use Rattle.ats_bound.proofs.Ending.{first_settled_exists}
 -- brackets formed from looked-up scores are no wider than the threshold
 pub use Rattle.ats_bound.proofs.Ending.{looked_up_are_narrow}
+-- whole lanes have a first cut within floors, if they are within them where the threshold is 0
+pub use Rattle.ats_bound.proofs.Within.{first_within_exists}
+-- no place is chosen twice
+pub use Rattle.ats_bound.proofs.Once.{chosen_once}

@@ -8,6 +8,7 @@ pub mod Schedule
 pub mod Lookup
 pub mod Narrow
 pub mod Stand
+pub mod Floors
 pub mod Frontier
 pub mod QuickTest
 pub mod Running

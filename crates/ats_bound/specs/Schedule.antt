@@ -105,13 +105,16 @@ pub record CanSettleBy (bounds : Bounding) (lanes : List WholeLane) (r : ℕ) (c
   pub inside : ArePicks brackets answer
   pub settled : IsSettled brackets answer (threshold (shown lanes cut)) r
 
--- the first cut of the schedule at which some answer is settled
-pub record IsFirstSettledBy (bounds : Bounding) (lanes : List WholeLane) (r : ℕ) (cut : List ℕ) : Type 0 where
+-- the first cut of the schedule at which this holds
+pub record IsFirstCut (Stops : List ℕ → Type 0) (lanes : List WholeLane) (cut : List ℕ) : Type 0 where
   pub turns : ℕ
   pub scheduled : IsScheduled lanes turns cut
-  pub settled : CanSettleBy bounds lanes r cut
-  pub first : (n : ℕ) (earlier : List ℕ) → n < turns
-      → IsScheduled lanes n earlier → CanSettleBy bounds lanes r earlier → ⊥
+  pub stops : Stops cut
+  pub first : (n : ℕ) (earlier : List ℕ) → n < turns → IsScheduled lanes n earlier → Stops earlier → ⊥
+
+-- the first cut of the schedule at which some answer is settled
+abbrev pub IsFirstSettledBy : Bounding → List WholeLane → ℕ → List ℕ → Type 0
+IsFirstSettledBy bounds lanes r cut = IsFirstCut (CanSettleBy bounds lanes r) lanes cut
 
 -- ---- from the shown entries only, with no random access
 

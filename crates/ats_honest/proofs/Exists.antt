@@ -20,18 +20,19 @@ use Rattle.ats_commit.specs.Archive.{Archive}
 use Rattle.ats_commit.specs.Own.{AreTexts}
 use Rattle.ats_commit.specs.Trees.{documents_of}
 use Rattle.ats_bound.specs.Chosen.{IsChosen}
-use Rattle.ats_bound.specs.Cut.{ShownLane, bracket}
+use Rattle.ats_bound.specs.Cut.{ShownLane, bracket, threshold}
+use Rattle.ats_bound.specs.Floors.{Floors, IsWithinBy}
 use Rattle.ats_bound.specs.Ranked.{docs_of}
 use Rattle.ats_bound.specs.Narrow.{AreNarrow}
-use Rattle.ats_bound.specs.Schedule.{AreWholeLanes, IsWholeLane, WholeLane, shown}
-use Rattle.ats_bound.proofs.Public.{brackets_are_narrow, first_settled_exists, looked_up_are_narrow, brackets_exist, chosen_exists, sorts}
+use Rattle.ats_bound.specs.Schedule.{AreWholeLanes, CanSettleBy, IsCut, IsFirstCut, IsWholeLane, WholeLane, shown}
+use Rattle.ats_bound.proofs.Public.{brackets_are_narrow, first_settled_exists, first_within_exists, looked_up_are_narrow, brackets_exist, chosen_exists, sorts}
 use Rattle.ats_proof.specs.declared.record.Algorithm.{Algorithm}
 use Rattle.ats_proof.specs.declared.record.Algorithm.TheVariants.{Tra, Tnra}
 use Rattle.ats_proof.specs.Value.{Documents, Proof, TermsSection}
 use Rattle.ats_honest.specs.Terms.{AreNeeded, needs}
 use Rattle.ats_honest.specs.Lanes.{bounding, impacts_of, lane_of, lanes_of, present}
 use Rattle.ats_honest.specs.Documents.{AreHonestSections, HasDocuments, IsHonestSection, document_leaf}
-use Rattle.ats_honest.specs.Honest.{IsCutShown, IsHonest, IsShownAt}
+use Rattle.ats_honest.specs.Honest.{IsCutShown, IsHonest, IsHonestBy, IsHonestWithin, IsShownAt}
 use Rattle.ats_honest.proofs.Items.{is_section, section_of}
 use Rattle.ats_honest.proofs.MetDocuments.{brackets_met}
 use Rattle.ats_honest.proofs.Needed.{are_needed}
@@ -142,12 +143,29 @@ cut_shown_exists H archive query algorithm cut is =
     let shows = shown_exists H archive query algorithm cut (docs_of made.0) [] is in
     (shows.0, record { documents = docs_of made.0; met = brackets_met lanes made.0 made.1; shows = shows.1; empty = shows.2 })
 
+-- the honest proof of a walk that ends
+pub honest_by : (Stops : List ℕ → Type 0) (rows : ℕ) (H : List ℕ → List ℕ) (archive : Archive) (query : List (List ℕ × ℕ)) (algorithm : Algorithm) → IsQuery query
+    → ((cut : List ℕ) × IsFirstCut Stops (lanes_of archive.texts query) cut) → (proof : Proof) × IsHonestBy Stops rows H archive query algorithm proof
+honest_by Stops rows H archive query algorithm is ending =
+    let lanes : List WholeLane = lanes_of archive.texts query in
+    let made = brackets_exist (bounding algorithm lanes) (shown lanes ending.0) (λ doc. (narrow algorithm lanes (shown lanes ending.0) doc).of) in
+    let answer = chosen_exists made.0 rows in
+    let shows = shown_exists H archive query algorithm ending.0 (docs_of made.0) answer.0 is in
+    (shows.0, record { cut = ending.0; first = ending.1; brackets = made.0; bounds = made.1; shows = shows.1; answer = subst (IsChosen made.0 rows) (sym shows.2) answer.1 })
+
 pub honest_exists : (H : List ℕ → List ℕ) (archive : Archive) (query : List (List ℕ × ℕ)) (r : ℕ) (algorithm : Algorithm) → AreTexts archive.texts → IsQuery query
     → (proof : Proof) × IsHonest H archive query r algorithm proof
 honest_exists H archive query r algorithm are is =
     let lanes : List WholeLane = lanes_of archive.texts query in
-    let ending = first_settled_exists (bounding algorithm lanes) lanes r (narrow algorithm lanes) (lanes_are_whole archive.texts query are.within.few is) in
-    let made = brackets_exist (bounding algorithm lanes) (shown lanes ending.0) (λ doc. (narrow algorithm lanes (shown lanes ending.0) doc).of) in
-    let answer = chosen_exists made.0 r in
-    let shows = shown_exists H archive query algorithm ending.0 (docs_of made.0) answer.0 is in
-    (shows.0, record { cut = ending.0; first = ending.1; brackets = made.0; bounds = made.1; shows = shows.1; answer = subst (IsChosen made.0 r) (sym shows.2) answer.1 })
+    honest_by (CanSettleBy (bounding algorithm lanes) lanes r) r H archive query algorithm is
+    (first_settled_exists (bounding algorithm lanes) lanes r (narrow algorithm lanes) (lanes_are_whole archive.texts query are.within.few is))
+
+-- that of a shard, if its whole lists are within the floors
+pub within_exists : (H : List ℕ → List ℕ) (archive : Archive) (query : List (List ℕ × ℕ)) (floors : Floors) (algorithm : Algorithm) → AreTexts archive.texts → IsQuery query
+    → ((cut : List ℕ) → IsCut (lanes_of archive.texts query) cut → threshold (shown (lanes_of archive.texts query) cut) ≡ 0
+    → IsWithinBy (bounding algorithm (lanes_of archive.texts query)) (lanes_of archive.texts query) floors cut)
+    → (proof : Proof) × IsHonestWithin H archive query floors algorithm proof
+within_exists H archive query floors algorithm are is at_none =
+    let lanes : List WholeLane = lanes_of archive.texts query in
+    honest_by (IsWithinBy (bounding algorithm lanes) lanes floors) (length floors.spans) H archive query algorithm is
+    (first_within_exists (bounding algorithm lanes) lanes floors (narrow algorithm lanes) (lanes_are_whole archive.texts query are.within.few is) at_none)

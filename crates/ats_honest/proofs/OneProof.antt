@@ -22,8 +22,8 @@ use Rattle.ats_bound.specs.declared.bracket.Bracket.{Bracket}
 use Rattle.ats_bound.specs.Chosen.{IsChosen}
 use Rattle.ats_bound.specs.Cut.{ShownLane}
 use Rattle.ats_bound.specs.Ranked.{docs_of}
-use Rattle.ats_bound.specs.Schedule.{AreBracketsBy, Bounding, WholeLane, shown}
-use Rattle.ats_bound.proofs.Public.{one_bracketing, risen_are_distinct, one_first_settled, one_chosen}
+use Rattle.ats_bound.specs.Schedule.{AreBracketsBy, Bounding, CanSettleBy, WholeLane, shown}
+use Rattle.ats_bound.proofs.Public.{one_bracketing, risen_are_distinct, one_first, one_chosen}
 use Rattle.ats_proof.specs.declared.record.Algorithm.{Algorithm}
 use Rattle.ats_proof.specs.declared.record.Algorithm.TheVariants.{Tra, Tnra}
 use Rattle.ats_proof.specs.Value.{Documents, Proof, TermsSection}
@@ -35,7 +35,7 @@ use Rattle.ats_doctree.proofs.Public.{doc_terms_rise, item_at-suc}
 use Rattle.ats_honest.specs.Terms.{AreNeeded, HaveSpots, has, shown_entry, slot_of}
 use Rattle.ats_honest.specs.Documents.{AreHonestSections, HasDocuments, IsHonestSection, IsTermSpot, shown_term}
 use Rattle.ats_honest.specs.Lanes.{bounding, lanes_of, present}
-use Rattle.ats_honest.specs.Honest.{AreMet, IsCutShown, IsHonest, IsShownAt, prefixes}
+use Rattle.ats_honest.specs.Honest.{AreMet, IsCutShown, IsHonest, IsHonestBy, IsShownAt, prefixes}
 use Rattle.ats_honest.proofs.Needed.{same_test}
 use Rattle.ats_honest.proofs.Positions.{one_lie, one_stand}
 use Rattle.ats_tree.specs.Elided.{elided_digests}
@@ -186,19 +186,25 @@ one_shown H archive query algorithm cut documents a b x y answer =
       answer = answer i;
     }
 
-pub one_proof : (H : List ℕ → List ℕ) (archive : Archive) (query : List (List ℕ × ℕ)) (r : ℕ) (algorithm : Algorithm) (a b : Proof)
-    → IsHonest H archive query r algorithm a → IsHonest H archive query r algorithm b → a ≡ b
-one_proof H archive query r algorithm a b x y =
+-- two honest proofs of a walk
+pub one_honest : (Stops : List ℕ → Type 0) (rows : ℕ) (H : List ℕ → List ℕ) (archive : Archive) (query : List (List ℕ × ℕ)) (algorithm : Algorithm) (a b : Proof)
+    → IsHonestBy Stops rows H archive query algorithm a → IsHonestBy Stops rows H archive query algorithm b → a ≡ b
+one_honest Stops rows H archive query algorithm a b x y =
     let lanes : List WholeLane = lanes_of archive.texts query in
     let by : Bounding = bounding algorithm lanes in
-    let cut : x.cut ≡ y.cut = one_first_settled by lanes r x.cut y.cut x.first y.first in
+    let cut : x.cut ≡ y.cut = one_first Stops lanes x.cut y.cut x.first y.first in
     let brackets : x.brackets ≡ y.brackets =
     one_bracketing by (shown lanes y.cut) x.brackets y.brackets (subst (λ (c : List ℕ). AreBracketsBy by (shown lanes c) x.brackets) cut x.bounds) y.bounds in
     let answer : a.answer ≡ b.answer =
-    one_chosen y.brackets r a.answer b.answer (risen_are_distinct y.brackets y.bounds.rise) (subst (λ (bs : List Bracket). IsChosen bs r a.answer) brackets x.answer) y.answer in
+    one_chosen y.brackets rows a.answer b.answer (risen_are_distinct y.brackets y.bounds.rise) (subst (λ (bs : List Bracket). IsChosen bs rows a.answer) brackets x.answer) y.answer in
     one_shown H archive query algorithm y.cut (docs_of y.brackets) a b
     (subst (λ (bs : List Bracket). IsShownAt H archive query algorithm y.cut (docs_of bs) a) brackets
     (subst (λ (c : List ℕ). IsShownAt H archive query algorithm c (docs_of x.brackets) a) cut x.shows)) y.shows answer
+
+pub one_proof : (H : List ℕ → List ℕ) (archive : Archive) (query : List (List ℕ × ℕ)) (r : ℕ) (algorithm : Algorithm) (a b : Proof)
+    → IsHonest H archive query r algorithm a → IsHonest H archive query r algorithm b → a ≡ b
+one_proof H archive query r algorithm a b =
+    one_honest (CanSettleBy (bounding algorithm (lanes_of archive.texts query)) (lanes_of archive.texts query) r) r H archive query algorithm a b
 
 -- two proofs of the same cut that have no answer
 pub one_cut_shown : (H : List ℕ → List ℕ) (archive : Archive) (query : List (List ℕ × ℕ)) (algorithm : Algorithm) (cut : List ℕ) (a b : Proof)

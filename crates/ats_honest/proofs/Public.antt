@@ -128,6 +128,10 @@ pub use Rattle.ats_honest.proofs.Lookups.{looked_up_out}
 pub use Rattle.ats_honest.proofs.Lookups.{looked_up_past}
 -- the cut of an honest proof shows from one to all entries of each lane
 pub use Rattle.ats_honest.proofs.ShownCut.{honest_cut}
+-- the honest proof of a shard exists, if its whole lists are within the floors
+pub use Rattle.ats_honest.proofs.Exists.{within_exists}
+-- two honest proofs of one walk are equal
+pub use Rattle.ats_honest.proofs.OneProof.{one_honest}
 -- the documents of an honest proof's brackets are those that its cut meets
 pub use Rattle.ats_honest.proofs.ShownCut.{honest_met}
 -- two proofs of one cut without an answer are equal

@@ -226,12 +226,12 @@ module _ (H : List ℕ → List ℕ) (sized : (bytes : List ℕ) → length (H b
   lists = lists_within archive.texts query are.within.few
 
   is_cut : IsCut lanes honest.cut
-  is_cut = honest_cut H archive query r Tnra proof honest
+  is_cut = honest_cut _ _ H archive query Tnra proof honest
 
   met : length proof.met ≤ 65536
   met =
       let docs : List ℕ = docs_of honest.brackets in
-      let are_met = honest_met H archive query r Tnra proof honest in
+      let are_met = honest_met _ _ H archive query Tnra proof honest in
       let few = rising_few 65536 docs are_met.rise (met_low 65536 lanes honest.cut docs (lists_below lanes lists) are_met) in
       omega (arith, few, ap (λ (ids : List ℕ). length ids) honest.shows.met)
 

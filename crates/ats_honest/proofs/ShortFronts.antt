@@ -29,5 +29,5 @@ pub fronts_short : (H : List ℕ → List ℕ) (archive : Archive) (query : List
 fronts_short H archive query r algorithm proof blocks honest =
     let HasFew : Prefix → Type 0 = λ prefix. length prefix.digests ≤ 7 in
     subst (All HasFew) (sym honest.shows.lists)
-    (fronts_all H archive.format proof.met (length archive.texts) HasFew (lanes_of archive.texts query) honest.cut (lanes_have_lists archive.texts query) (honest_cut H archive query r algorithm proof honest)
+    (fronts_all H archive.format proof.met (length archive.texts) HasFew (lanes_of archive.texts query) honest.cut (lanes_have_lists archive.texts query) (honest_cut _ _ H archive query algorithm proof honest)
     (λ entries count list. in_blocks H archive.format entries count blocks))

@@ -14,8 +14,9 @@ use Rattle.ats_commit.specs.Trees.{dictionary_of}
 use Rattle.ats_bound.specs.declared.bracket.Bracket.{Bracket}
 use Rattle.ats_bound.specs.Chosen.{IsChosen}
 use Rattle.ats_bound.specs.Cut.{ShownLane, names}
+use Rattle.ats_bound.specs.Floors.{Floors, IsWithinBy}
 use Rattle.ats_bound.specs.Ranked.{docs_of}
-use Rattle.ats_bound.specs.Schedule.{WholeLane, AreBracketsBy, IsFirstSettledBy, shown}
+use Rattle.ats_bound.specs.Schedule.{WholeLane, AreBracketsBy, CanSettleBy, IsFirstCut, shown}
 use Rattle.ats_proof.specs.declared.record.Algorithm.{Algorithm}
 use Rattle.ats_proof.specs.Value.{Prefix, Proof, IsProof, fields_of}
 use Rattle.ats_honest.specs.Terms.{AreSpots, AreNeeded, has, place, shown_entry, slot_of}
@@ -60,15 +61,26 @@ pub record IsShownAt (H : List ℕ → List ℕ) (archive : Archive) (query : Li
   pub lists : proof.lists ≡ prefixes H archive.format proof.met (lanes_of archive.texts query) cut
   pub docs : HasDocuments algorithm H archive.texts (present archive.texts query) proof.met proof.docs
 
--- The honest proof shows the first cut of the schedule at which an answer is settled by the algorithm's brackets, with the
--- documents of these brackets as the met ones; and it has the chosen answer of at most r of these documents.
-pub record IsHonest (H : List ℕ → List ℕ) (archive : Archive) (query : List (List ℕ × ℕ)) (r : ℕ) (algorithm : Algorithm) (proof : Proof) : Type 0 where
+-- The honest proof of a walk shows the first cut of the schedule at which the walk stops, with the documents of the
+-- algorithm's brackets there as the met ones; and it has the chosen answer of at most this many of them.
+pub record IsHonestBy (Stops : List ℕ → Type 0) (rows : ℕ) (H : List ℕ → List ℕ) (archive : Archive) (query : List (List ℕ × ℕ)) (algorithm : Algorithm) (proof : Proof) : Type 0 where
   pub cut : List ℕ
-  pub first : IsFirstSettledBy (bounding algorithm (lanes_of archive.texts query)) (lanes_of archive.texts query) r cut
+  pub first : IsFirstCut Stops (lanes_of archive.texts query) cut
   pub brackets : List Bracket
   pub bounds : AreBracketsBy (bounding algorithm (lanes_of archive.texts query)) (shown (lanes_of archive.texts query) cut) brackets
   pub shows : IsShownAt H archive query algorithm cut (docs_of brackets) proof
-  pub answer : IsChosen brackets r proof.answer
+  pub answer : IsChosen brackets rows proof.answer
+
+-- that of a query's best documents stops where an answer of at most r rows is settled
+abbrev pub IsHonest : (List ℕ → List ℕ) → Archive → List (List ℕ × ℕ) → ℕ → Algorithm → Proof → Type 0
+IsHonest H archive query r algorithm proof =
+    IsHonestBy (CanSettleBy (bounding algorithm (lanes_of archive.texts query)) (lanes_of archive.texts query) r) r H archive query algorithm proof
+
+-- that of one shard of a catalog stops where the rows that it is asked for are within the floors
+abbrev pub IsHonestWithin : (List ℕ → List ℕ) → Archive → List (List ℕ × ℕ) → Floors → Algorithm → Proof → Type 0
+IsHonestWithin H archive query floors algorithm proof =
+    IsHonestBy (IsWithinBy (bounding algorithm (lanes_of archive.texts query)) (lanes_of archive.texts query) floors) (length floors.spans)
+    H archive query algorithm proof
 
 -- how many bytes the fields of a proof have
 abbrev pub length_of : Proof → ℕ

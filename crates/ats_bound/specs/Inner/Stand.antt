@@ -2,7 +2,7 @@
 use Rattle.std.specs.Prelude.{◌<◌, ℕ, List}
 use Rattle.ats_bound.specs.declared.walk.Walk.{Walk}
 use Rattle.ats_bound.specs.Settled.{IsSettled}
-use Rattle.ats_bound.specs.Schedule.{WholeLane, Bounding, CanSettleBy, IsFirstSettledBy, IsScheduled}
+use Rattle.ats_bound.specs.Schedule.{WholeLane, Bounding, IsFirstSettledBy, IsScheduled}
 use Rattle.ats_bound.specs.Stand.{IsStand}
 
 -- the walk is at the first cut of the schedule at which an answer is settled, with the chosen answer
@@ -11,9 +11,8 @@ pub record IsEnd (bounds : Bounding) (lanes : List WholeLane) (r : ℕ) (walk : 
   pub stand : IsStand bounds lanes r walk.cut walk
   pub settled : IsSettled walk.brackets walk.picks walk.threshold r
 
--- a cut of the schedule, with no answer settled at an earlier one
-pub record IsReached (bounds : Bounding) (lanes : List WholeLane) (r : ℕ) (counts : List ℕ) : Type 0 where
+-- a cut of the schedule, and the walk has stopped at no earlier one
+pub record IsReached (Stops : List ℕ → Type 0) (lanes : List WholeLane) (counts : List ℕ) : Type 0 where
   pub turns : ℕ
   pub scheduled : IsScheduled lanes turns counts
-  pub none : (n : ℕ) (earlier : List ℕ) → n < turns
-      → IsScheduled lanes n earlier → CanSettleBy bounds lanes r earlier → ⊥
+  pub none : (n : ℕ) (earlier : List ℕ) → n < turns → IsScheduled lanes n earlier → Stops earlier → ⊥

@@ -14,7 +14,7 @@ pub loop-lane-init : goal.loop-lane-init
 loop-lane-init c = rw c.in_ok-walk.ensures (record {
   lanes = refl;
   rows = refl;
-  reached = reached_first bracket (whole_lanes c.args.lanes.now) c.args.top;
+  reached = reached_first (CanSettleBy bracket (whole_lanes c.args.lanes.now) c.args.top) (whole_lanes c.args.lanes.now);
 })
 
 pub loop-lane-smaller : goal.loop-lane-smaller
@@ -23,7 +23,7 @@ loop-lane-smaller c =
     let i : ℕ = c.in-Some.lane in
     let next : IsNextLane walk.lanes walk.cut i = c.in-Some.ensures.next in
     let whole : AreWholeLanes walk.lanes = subst AreWholeLanes (sym c.loop-lane.invariant.lanes) c.requires in
-    let reached : IsReached bracket walk.lanes c.args.top walk.cut = subst (λ (ls : List WholeLane). IsReached bracket ls c.args.top walk.cut) (sym c.loop-lane.invariant.lanes) c.loop-lane.invariant.reached in
+    let reached : IsReached (CanSettleBy bracket walk.lanes c.args.top) walk.lanes walk.cut = subst (λ (ls : List WholeLane). IsReached (CanSettleBy bracket ls c.args.top) ls walk.cut) (sym c.loop-lane.invariant.lanes) c.loop-lane.invariant.reached in
     let is : IsCut walk.lanes walk.cut = scheduled_is_cut walk.lanes reached.turns walk.cut (have_entries walk.lanes whole) reached.scheduled in
     rw c.in_ok-advance.ensures.ok (fewer_hidden walk.lanes walk.cut i is next.inside next.more)
 
@@ -41,7 +41,7 @@ loop-lane-preserved c =
     rw c.in_ok-advance.ensures.ok (record {
       lanes = c.loop-lane.invariant.lanes;
       rows = c.loop-lane.invariant.rows;
-      reached = reached_after bracket lanes c.args.top walk.cut i c.loop-lane.invariant.reached cannot next;
+      reached = reached_after (CanSettleBy bracket lanes c.args.top) lanes walk.cut i c.loop-lane.invariant.reached cannot next;
     })
 
 -- the state of the walk, for the lists that it was given

@@ -2,7 +2,7 @@ use Rattle.std.proofs.Common.{◌≡◌}
 use Rattle.std.specs.List.{sum_by}
 use Rattle.ats_bound.specs.Cut.{bracket}
 use Rattle.ats_bound.specs.Running.{shown_in}
-use Rattle.ats_bound.specs.Schedule.{whole_lanes}
+use Rattle.ats_bound.specs.Schedule.{CanSettleBy, whole_lanes}
 use Rattle.ats_bound.specs.Inner.Stand.{IsReached}
 use Rattle.ats_bound.proofs.Public.{hidden}
 use Rattle.ats_tnra.proofs.walking.first_settled.Given as goal
@@ -11,7 +11,7 @@ abbrev pub invariant-loop-lane : goal.invariant-loop-lane
 invariant-loop-lane l = record {
   lanes : l.walk.lanes ≡ whole_lanes l.lanes;
   rows : l.walk.rows ≡ l.fn.top;
-  reached : IsReached bracket (whole_lanes l.lanes) l.fn.top l.walk.cut;
+  reached : IsReached (CanSettleBy bracket (whole_lanes l.lanes) l.fn.top) (whole_lanes l.lanes) l.walk.cut;
 }
 
 abbrev pub decreases-loop-lane : goal.decreases-loop-lane

@@ -27,7 +27,7 @@ loop-lane-init g c =
       lanes = ap (λ (s : Stage). s.lanes) c.in_ok-walk.ensures.stage;
       rows = c.in_ok-walk.ensures.rows;
       known = c.in_ok-walk.ensures.brackets score (rw c.deref.ensures.value first);
-      reached = rw (ap (λ (s : Stage). s.cut) c.in_ok-walk.ensures.stage) (reached_first (looked_up table) lanes c.args.top);
+      reached = rw (ap (λ (s : Stage). s.cut) c.in_ok-walk.ensures.stage) (reached_first (CanSettleBy (looked_up table) lanes c.args.top) lanes);
     }
 
 pub loop-lane-smaller : goal.loop-lane-smaller
@@ -51,7 +51,7 @@ loop-lane-preserved g c =
       lanes = c.advance.ensures.lanes ∙ c.loop-lane.invariant.lanes;
       rows = c.advance.ensures.rows ∙ c.loop-lane.invariant.rows;
       known = c.in_ok-advance.ensures.brackets (score_by table lanes) c.loop-lane.invariant.known (λ _. sym (c.score_at-score.ensures ∙ ap (score_by table lanes) c.next_document-doc.ensures));
-      reached = rw (c.in_ok-advance.ensures.cut) (reached_after bounds lanes c.args.top cut c.in-Some.lane c.loop-lane.invariant.reached cannot next);
+      reached = rw (c.in_ok-advance.ensures.cut) (reached_after (CanSettleBy bounds lanes c.args.top) lanes cut c.in-Some.lane c.loop-lane.invariant.reached cannot next);
     }
 
 pub returns-then-settled : goal.returns-then-settled

@@ -2,7 +2,7 @@ use Rattle.std.proofs.Common.{◌≡◌}
 use Rattle.std.specs.List.{sum_by}
 use Rattle.ats_bound.specs.Frontier.{shown_on}
 use Rattle.ats_bound.specs.Lookup.{looked_up}
-use Rattle.ats_bound.specs.Schedule.{AreBracketsBy, whole_lanes}
+use Rattle.ats_bound.specs.Schedule.{AreBracketsBy, CanSettleBy, whole_lanes}
 use Rattle.ats_bound.specs.Inner.Stand.{IsReached}
 use Rattle.ats_bound.specs.Scored.{exactly}
 use Rattle.ats_bound.proofs.Public.{hidden}
@@ -14,7 +14,7 @@ invariant-loop-lane g l = record {
   lanes : l.walk.stage.lanes ≡ whole_lanes l.lanes;
   rows : l.walk.rows ≡ l.fn.top;
   known : AreBracketsBy (exactly (score_by (g.A.RandomAccess.table l.access) (whole_lanes l.lanes))) (shown_on l.walk.stage) l.walk.brackets;
-  reached : IsReached (looked_up (g.A.RandomAccess.table l.access)) (whole_lanes l.lanes) l.fn.top l.walk.stage.cut;
+  reached : IsReached (CanSettleBy (looked_up (g.A.RandomAccess.table l.access)) (whole_lanes l.lanes) l.fn.top) (whole_lanes l.lanes) l.walk.stage.cut;
 }
 
 abbrev pub decreases-loop-lane : goal.decreases-loop-lane
