@@ -28,7 +28,7 @@ use Rattle.ats_accepts.proofs.Asking.{asks_own}
 use Rattle.ats_accepts.proofs.AcceptedSlots.{needed_shown}
 use Rattle.ats_accepts.proofs.AcceptedTerms.{shown_dictionary, shown_opened, shown_slots}
 use Rattle.ats_accepts.proofs.AcceptedSections.{numbers_ask}
-use Rattle.ats_accepts.proofs.AcceptedDocuments.{shown_documents, shown_tree}
+use Rattle.ats_accepts.proofs.AcceptedDocuments.{shown_documents, partial_tree}
 use Rattle.ats_accepts.proofs.AcceptedLists.{AreIn, AreFronts, front_lanes, fronts_right, show_terms}
 use Rattle.ats_accepts.proofs.ShownPlaces.{at_place}
 
@@ -109,7 +109,7 @@ module _ (H : List ℕ → List ℕ) (archive : Archive) (query : List (List ℕ
 
   -- a tree without leaves is never rebuilt
   tree_accepted : (algorithm ≡ Tra → 1 ≤ length archive.texts) → IsDocsTree H proof
-  tree_accepted some = shown_tree H archive.texts terms algorithm proof.met proof.docs proof.header number (ap (λ (h : Header). h.docs_root) is.header) is.docs some met_increases met_within
+  tree_accepted some = partial_tree H archive.texts terms algorithm proof.met proof.docs proof.header number (ap (λ (h : Header). h.docs_root) is.header) is.docs some met_increases met_within
 
   documents_accepted : AreDocumentsRight H query proof
   documents_accepted = shown_documents H archive.texts terms query (present_numbers proof) named algorithm proof.met proof.docs is.docs

@@ -21,7 +21,7 @@ use Rattle.ats_proof.specs.Runs.{shown_docs}
 use Rattle.ats_client.specs.Documents.{AreDocsRooted, IsDocumentRight, documents_from, documents_in}
 use Rattle.ats_honest.specs.Documents.{AreHonestSections, HasDocuments, document_leaf}
 use Rattle.ats_honest.proofs.Public.{documents_each}
-use Rattle.ats_accepts.proofs.ShownTrees.{leaves_shown, positions_rebuild}
+use Rattle.ats_accepts.proofs.PartialTrees.{leaves_shown, positions_rebuild}
 use Rattle.ats_accepts.proofs.AcceptedSections.{section_rebuilds, section_shows}
 
 module _ (H : List ℕ → List ℕ) (texts : List (List ℕ)) where
@@ -56,13 +56,13 @@ module _ (H : List ℕ → List ℕ) (texts : List (List ℕ)) where
       ∙ positions_rebuild H leaves met (omega (arith, size, some)) rise (λ k d inside. omega (arith, low k d inside, size))
 
   module _ (terms : List (List ℕ × ℕ)) where
-    pub shown_tree : (algorithm : Algorithm) (met : List ℕ) (docs : Option Documents) (header : Header) → header.documents ≡ length texts → header.docs_root ≡ mth H (documents_of H texts)
+    pub partial_tree : (algorithm : Algorithm) (met : List ℕ) (docs : Option Documents) (header : Header) → header.documents ≡ length texts → header.docs_root ≡ mth H (documents_of H texts)
         → HasDocuments algorithm H texts terms met docs → (algorithm ≡ Tra → 1 ≤ length texts) → IsStrictlyIncreasing met → All (λ doc. doc < length texts) met
         → AreDocsRooted H header met docs
-    shown_tree Tnra met None header many root has some rise low = tt
-    shown_tree Tnra met (Some docs) header many root has some rise low = absurd (cc)
-    shown_tree Tra met None header many root has some rise low = absurd has
-    shown_tree Tra met (Some docs) header many root has some rise low =
+    partial_tree Tnra met None header many root has some rise low = tt
+    partial_tree Tnra met (Some docs) header many root has some rise low = absurd (cc)
+    partial_tree Tra met None header many root has some rise low = absurd has
+    partial_tree Tra met (Some docs) header many root has some rise low =
         ap (λ (n : ℕ). rebuilt H n (shown_docs met docs.leaves) docs.digests) many
         ∙ ap₂ (λ (leaves : List DocLeaf) (digests : List (List ℕ)). rebuilt H (length texts) (shown_docs met leaves) digests) has.leaves has.digests
         ∙ documents_rebuild met (some refl) rise low

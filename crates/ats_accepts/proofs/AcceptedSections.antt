@@ -24,7 +24,7 @@ use Rattle.ats_honest.specs.Inner.Present.{standing}
 use Rattle.ats_honest.specs.Documents.{IsHonestSection, IsTermSpot, shown_term}
 use Rattle.ats_honest.proofs.Public.{lower_item, all_below}
 use Rattle.ats_accepts.proofs.Asking.{Asks, asks_first, asks_later}
-use Rattle.ats_accepts.proofs.ShownTrees.{leaves_shown, positions_rebuild}
+use Rattle.ats_accepts.proofs.PartialTrees.{leaves_shown, positions_rebuild}
 use Rattle.ats_accepts.proofs.AcceptedSlots.{LiesBy, leaf_at, slots_show}
 
 -- ---- the numbers of the terms that have a leaf

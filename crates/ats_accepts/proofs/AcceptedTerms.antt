@@ -36,7 +36,7 @@ use Rattle.ats_honest.specs.Honest.{IsShownAt}
 use Rattle.ats_honest.proofs.Public.{absent_term, spot_each, positions_below, present_term, list_at, standing_term}
 use Rattle.ats_bound.proofs.Public.{has_contained}
 use Rattle.ats_accepts.proofs.ShownPlaces.{made_at_place}
-use Rattle.ats_accepts.proofs.ShownTrees.{leaves_shown, positions_rebuild}
+use Rattle.ats_accepts.proofs.PartialTrees.{leaves_shown, positions_rebuild}
 use Rattle.ats_accepts.proofs.AcceptedSlots.{IsShown, LiesBy, leaf_at, slots_show}
 
 entry_lies : (entries : List DictEntry) (term : List ℕ) (spot : Spot) → IsSpot entries term spot → LiesBy (term_at entries) term spot

@@ -1,7 +1,7 @@
 pub mod Public
 mod Asking
 mod ShownPlaces
-mod ShownTrees
+mod PartialTrees
 mod AcceptedSlots
 mod AcceptedTerms
 mod AcceptedLists

@@ -44,7 +44,7 @@ pub fn audit<H: Hash32>(
     ensures { IfOk result (IsVerdict H.hash index.now query.now top bytes.now) }
 {
     // An index has texts within the limits.
-    let _texts = index.collection();
+    let _facts = index.collection();
     let proof = match ProofView::read(bytes) {
         Ok(proof) => proof,
         Err(fault) => return Ok(Verdict::BadShape(fault)),

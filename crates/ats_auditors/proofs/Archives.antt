@@ -6,8 +6,8 @@ use Rattle.std.proofs.lemmas.Slice.Zip.{AllZip-long}
 use Rattle.ats_base.specs.Outside.{ShelfTold}
 use Rattle.ats_commit.specs.Archive.{Archive}
 use Rattle.ats_commit.specs.Root.{root_of}
-use Rattle.ats_shards.specs.Catalog.{roots_of}
-use Rattle.ats_catalog_audit.specs.Taken.{Taken}
+use Rattle.ats_catalog_bytes.specs.Catalog.{roots_of}
+use Rattle.ats_catalog_audit.specs.AuditState.{AuditState}
 use Rattle.ats_catalog_audit.specs.UnderWay.{HasTaken}
 use Rattle.ats_catalog_audit.proofs.Public.{taken_none, taken_more}
 use Rattle.ats_plan.specs.Files.{Files}
@@ -94,7 +94,7 @@ module _ (H : List ℕ → List ℕ) where
   same_archives {before = before} {now = now} names archives done = (has_read [] names archives before now done.so).same
 
   -- so there is a root for each name
-  pub some_roots : {before now : ShelfTold} (names : List (List ℕ)) (archives : List Archive) (old new : Taken) → HasTaken H archives old new
+  pub some_roots : {before now : ShelfTold} (names : List (List ℕ)) (archives : List Archive) (old new : AuditState) → HasTaken H archives old new
       → IsDone (reads_archives H [] names (comes_to archives)) before now [] → 1 ≤ length names → 1 ≤ length new.roots
   some_roots {now = now} names archives old new took done some =
       omega (
@@ -113,7 +113,7 @@ module _ (H : List ℕ → List ℕ) where
   IsLeft rest before now names i archives = Leads Shelf Memory (reads_archives H [] names rest) before (reads_archives H archives (drop i names) rest) now
 
   -- the indexes of the first names were taken
-  pub record AreSoFar (before now : ShelfTold) (old new : Taken) (names : List (List ℕ)) (i : ℕ) : Type 0 where
+  pub record AreSoFar (before now : ShelfTold) (old new : AuditState) (names : List (List ℕ)) (i : ℕ) : Type 0 where
     pub archives : List Archive
     pub taken : HasTaken H archives old new
     pub done : (all : List Archive) → IsLeft (comes_to all) before now names i archives
@@ -121,13 +121,13 @@ module _ (H : List ℕ → List ℕ) where
     pub counted : length archives ≡ i
 
   -- as many roots are kept
-  pub so_many : (before now : ShelfTold) (old new : Taken) (names : List (List ℕ)) (i : ℕ) → AreSoFar before now old new names i
+  pub so_many : (before now : ShelfTold) (old new : AuditState) (names : List (List ℕ)) (i : ℕ) → AreSoFar before now old new names i
       → length new.roots ≡ length old.roots + i
   so_many before now old new names i so_far =
       ap length so_far.taken.roots ∙ length-append old.roots (roots_of H so_far.archives)
       ∙ ap (λ (n : ℕ). length old.roots + n) (length-map so_far.archives (root_of H) ∙ so_far.counted)
 
-  pub none_so_far : (before : ShelfTold) (audit : Taken) (names : List (List ℕ)) → AreSoFar before before audit audit names 0
+  pub none_so_far : (before : ShelfTold) (audit : AuditState) (names : List (List ℕ)) → AreSoFar before before audit audit names 0
   none_so_far before audit names = record {
     archives = [];
     taken = taken_none H audit;
@@ -136,7 +136,7 @@ module _ (H : List ℕ → List ℕ) where
     counted = refl;
   }
 
-  module _ (before mid : ShelfTold) (old now : Taken) (names : List (List ℕ)) (i : ℕ) (name : List ℕ) (less : i < length names) (is : name ≡ get_or names i name)
+  module _ (before mid : ShelfTold) (old now : AuditState) (names : List (List ℕ)) (i : ℕ) (name : List ℕ) (less : i < length names) (is : name ≡ get_or names i name)
       (so_far : AreSoFar before mid old now names i) where
     left_next : (rest : List Archive → Plan Stop) → IsLeft rest before mid names i so_far.archives
         → Leads Shelf Memory (reads_archives H [] names rest) before (reads_index H name (λ archive. reads_archives H (so_far.archives ++ archive ∷ []) (drop (i + 1) names) rest)) mid
@@ -149,7 +149,7 @@ module _ (H : List ℕ → List ℕ) where
         → IsStopped Shelf Memory (reads_archives H [] names (λ all. no_more)) before next stop
     stops_at next stop stops = (left_next (λ all. no_more) so_far.stopped).stops next stop (at_index stops)
 
-    pub so_far_more : (next : ShelfTold) (new : Taken) (archive : Archive) → HasTaken H (archive ∷ []) now new → IsDone (reads_index H name (comes_to archive)) mid next []
+    pub so_far_more : (next : ShelfTold) (new : AuditState) (archive : Archive) → HasTaken H (archive ∷ []) now new → IsDone (reads_index H name (comes_to archive)) mid next []
         → AreSoFar before next old new names (i + 1)
     so_far_more next new archive took reads = record {
       archives = so_far.archives ++ archive ∷ [];
@@ -160,7 +160,7 @@ module _ (H : List ℕ → List ℕ) where
     }
 
   -- all were taken
-  pub all_taken : (before now : ShelfTold) (old new : Taken) (names : List (List ℕ)) (i : ℕ) → length names ≤ i → AreSoFar before now old new names i
+  pub all_taken : (before now : ShelfTold) (old new : AuditState) (names : List (List ℕ)) (i : ℕ) → length names ≤ i → AreSoFar before now old new names i
       → (archives : List Archive) × HasTaken H archives old new × IsDone (reads_archives H [] names (comes_to archives)) before now []
   all_taken before now old new names i past so_far = (
     so_far.archives,

@@ -3,7 +3,7 @@ use Rattle.std.proofs.Common.{◌^◌, ℕ, List, []}
 use Rattle.ats_base.specs.Outside.{ShelfTold}
 use Rattle.ats_terms.specs.Query.{IsQueryOf}
 use Rattle.ats_commit.specs.Archive.{Archive}
-use Rattle.ats_shards.specs.Value.{Framed, IsCatalogProof}
+use Rattle.ats_catalog_bytes.specs.Value.{Framed, IsCatalogProof}
 use Rattle.ats_plan.specs.Plan.{Plan, Finishes, Gets}
 use Rattle.ats_plan.specs.Runs.{IsDone, IsStopped}
 use Rattle.ats_plan.proofs.Public.{Leads, leads_none, leads_get}

@@ -2,11 +2,11 @@
 use Rattle.std.proofs.Common.{◌≡◌, ℕ, List, length, refl, inl, inr}
 use Rattle.ats_commit.specs.Archive.{Archive}
 use Rattle.ats_commit.specs.Root.{root_of}
-use Rattle.ats_consistency.specs.Headline.{HasGrown}
-use Rattle.ats_consistency.specs.declared.checking.Grown.{Grown}
-use Rattle.ats_growth.specs.Verdicts.{IsFoundGrown}
-use Rattle.ats_growth.specs.declared.verdict.GrowthVerdict.TheVariants.{Right}
-use Rattle.ats_growth.proofs.Public.{told}
+use Rattle.ats_growth_check.specs.Headline.{HasGrown}
+use Rattle.ats_growth_check.specs.declared.checking.Grown.{Grown}
+use Rattle.ats_growth_proof.specs.Verdicts.{IsFoundGrown}
+use Rattle.ats_growth_proof.specs.declared.verdict.GrowthVerdict.TheVariants.{Right}
+use Rattle.ats_growth_proof.proofs.Public.{told}
 use Rattle.ats_plan.specs.Files.{Files}
 use Rattle.ats_console.specs.Read.{HasIndex}
 use Rattle.ats_console.proofs.Public.{texts_of}

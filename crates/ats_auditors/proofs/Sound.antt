@@ -7,11 +7,11 @@ use Rattle.ats_commit.specs.Root.{root_of}
 use Rattle.ats_grammar.specs.declared.fault.ShapeFault.{ShapeFault}
 use Rattle.ats_grammar.proofs.Public.{no_fault, one_fault}
 use Rattle.ats_refusal.specs.declared.proof.Rejection.TheVariants.{Shape}
-use Rattle.ats_shards.specs.Catalog.{catalog_root}
-use Rattle.ats_shards.specs.Grammar.{catalog_schema}
-use Rattle.ats_shards.specs.Value.{IsCatalogProof, fields_of}
-use Rattle.ats_shards.proofs.Public.{one_catalog}
-use Rattle.ats_catalog.specs.Bytes.{IsAcceptedCatalog}
+use Rattle.ats_catalog_bytes.specs.Catalog.{catalog_root}
+use Rattle.ats_catalog_bytes.specs.Grammar.{catalog_schema}
+use Rattle.ats_catalog_bytes.specs.Value.{IsCatalogProof, fields_of}
+use Rattle.ats_catalog_bytes.proofs.Public.{one_catalog}
+use Rattle.ats_catalog_check.specs.Bytes.{IsAcceptedCatalog}
 use Rattle.ats_catalog_audit.specs.Verdicts.{AreAcceptedShards}
 use Rattle.ats_catalog_audit.proofs.Public.{one_shards}
 use Rattle.ats_plan.specs.Plan.{Plan, Tries}

@@ -2,18 +2,18 @@
 -- with them is stated once.
 use Rattle.std.specs.Prelude.{◌^◌, ℕ, List, Option}
 use Rattle.ats_tree.specs.Differences.{Difference}
-use Rattle.ats_tree.specs.declared.hashed.Place.{Place}
+use Rattle.ats_tree.specs.declared.places.Place.{Place}
 use Rattle.ats_commit.specs.Archive.{Archive}
 use Rattle.ats_commit.specs.Root.{root_of}
 use Rattle.ats_proof.specs.Value.{Proof}
 use Rattle.ats_client.specs.Strings.{proof_collision}
-use Rattle.ats_inclusion.specs.Strings.{TextPlace, text_collision}
-use Rattle.ats_inclusion.specs.Value.{TextProof}
-use Rattle.ats_consistency.specs.Strings.{Beside}
-use Rattle.ats_consistency.specs.Strings as growth
-use Rattle.ats_consistency.specs.Value.{Growth}
-use Rattle.ats_shards.specs.Catalog.{catalog_root}
-use Rattle.ats_catalog.specs.Strings.{CatalogPlace}
+use Rattle.ats_text_check.specs.Strings.{TextPlace, text_collision}
+use Rattle.ats_text_check.specs.Value.{TextProof}
+use Rattle.ats_growth_check.specs.Strings.{Beside}
+use Rattle.ats_growth_check.specs.Strings as growth
+use Rattle.ats_growth_check.specs.Value.{Growth}
+use Rattle.ats_catalog_bytes.specs.Catalog.{catalog_root}
+use Rattle.ats_catalog_check.specs.Strings.{CatalogPlace}
 use Rattle.ats_catalog_audit.specs.Verdicts.{Shards, AreAcceptedShards, shards_collision}
 use Rattle.ats_plan.specs.Plan.{Plan, Gets}
 use Rattle.ats_console.specs.Kinds.{Kind, proof_kind, both_kind, text_kind, growth_kind, catalog_kind, checks_named}

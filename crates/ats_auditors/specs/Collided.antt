@@ -1,10 +1,10 @@
 -- What stops an audit of something accepted: its first collision, by its lines.
 use Rattle.std.specs.Prelude.{◌≡◌, ◌≢◌, ◌++◌, ℕ, Bool, true, false, List, Option, Some, None, codes, decimal}
 use Rattle.ats_tree.specs.Differences.{Difference}
-use Rattle.ats_tree.specs.declared.hashed.Place.{Place}
-use Rattle.ats_inclusion.specs.Strings.{TextPlace}
-use Rattle.ats_consistency.specs.Strings.{Beside}
-use Rattle.ats_catalog.specs.Strings.{CatalogPlace, over_roots, in_proof}
+use Rattle.ats_tree.specs.declared.places.Place.{Place}
+use Rattle.ats_text_check.specs.Strings.{TextPlace}
+use Rattle.ats_growth_check.specs.Strings.{Beside}
+use Rattle.ats_catalog_check.specs.Strings.{CatalogPlace, over_roots, in_proof}
 use Rattle.ats_plan.specs.Files.{Files}
 use Rattle.ats_plan.specs.Plan.{Plan, Tries}
 use Rattle.ats_console.specs.CollisionLines.{lines_of_collision, lines_of_shard_collision, lines_of_strings, lines_of_pair}

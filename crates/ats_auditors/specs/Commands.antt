@@ -8,21 +8,21 @@ use Rattle.ats_client.specs.Bytes.{IsAcceptedBytes}
 use Rattle.ats_client.specs.Headline.{AreRight}
 use Rattle.ats_client.specs.Rows.{rows_of}
 use Rattle.ats_client.specs.Strings.{proof_collision}
-use Rattle.ats_conjunction.specs.Bytes.{AreAcceptedBytes}
-use Rattle.ats_conjunction.specs.Documents.{both, documents_shown}
-use Rattle.ats_inclusion.specs.Bytes.{IsAcceptedText}
-use Rattle.ats_inclusion.specs.Strings.{text_collision, IsOwnText}
-use Rattle.ats_consistency.specs.Bytes.{IsAcceptedGrowth}
-use Rattle.ats_consistency.specs.Headline.{HasGrown}
-use Rattle.ats_consistency.specs.Strings.{growth_collision}
+use Rattle.ats_all_check.specs.Bytes.{AreAcceptedBytes}
+use Rattle.ats_all_check.specs.Documents.{both, documents_shown}
+use Rattle.ats_text_check.specs.Bytes.{IsAcceptedText}
+use Rattle.ats_text_check.specs.Strings.{text_collision, IsOwnText}
+use Rattle.ats_growth_check.specs.Bytes.{IsAcceptedGrowth}
+use Rattle.ats_growth_check.specs.Headline.{HasGrown}
+use Rattle.ats_growth_check.specs.Strings.{growth_collision}
 use Rattle.ats_grammar.specs.Front.{IsBad}
 use Rattle.ats_grammar.specs.declared.fault.ShapeFault.{ShapeFault}
 use Rattle.ats_refusal.specs.declared.proof.Rejection.TheVariants.{Shape}
-use Rattle.ats_shards.specs.Catalog.{catalog_root}
-use Rattle.ats_shards.specs.Grammar.{catalog_schema}
-use Rattle.ats_shards.specs.Value.{Framed, IsCatalogProof}
-use Rattle.ats_catalog.specs.Accepts.{merged_rows}
-use Rattle.ats_catalog.specs.Headline.{AreRightIn}
+use Rattle.ats_catalog_bytes.specs.Catalog.{catalog_root}
+use Rattle.ats_catalog_bytes.specs.Grammar.{catalog_schema}
+use Rattle.ats_catalog_bytes.specs.Value.{Framed, IsCatalogProof}
+use Rattle.ats_catalog_check.specs.Accepts.{merged_rows}
+use Rattle.ats_catalog_check.specs.Headline.{AreRightIn}
 use Rattle.ats_catalog_audit.specs.Verdicts.{AreAcceptedShards, shards_collision}
 use Rattle.ats_plan.specs.Files.{Files}
 use Rattle.ats_plan.specs.Plan.{Plan, Finishes, Tries, Gets, Makes, Reads}

@@ -4,7 +4,7 @@ use Rattle.std.specs.List.{AllZip, list_any, zip}
 use Rattle.ats_terms.specs.Query.{IsQuery, IsQueryOf}
 use Rattle.ats_impact.specs.declared.rank.Row.{Row}
 use Rattle.ats_tree.specs.Differences.{Difference}
-use Rattle.ats_tree.specs.declared.hashed.Place.{Place}
+use Rattle.ats_tree.specs.declared.places.Place.{Place}
 use Rattle.ats_commit.specs.Archive.{Archive}
 use Rattle.ats_commit.specs.Root.{root_of}
 use Rattle.ats_proof.specs.declared.record.Algorithm.{Algorithm}

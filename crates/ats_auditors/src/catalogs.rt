@@ -2,7 +2,7 @@
 
 ghost use Rattle.std.specs.Prelude.{◌≡◌, ◌≤◌, ◌<◌, ◌+◌, ◌^◌, [], ◌∷◌, ℕ, List, length, IfOk, IfErr, OnOk};
 ghost use Rattle.ats_commit.specs.Archive.{Archive};
-ghost use Rattle.ats_catalog.specs.declared.row.CatalogRow.{CatalogRow};
+ghost use Rattle.ats_catalog_check.specs.declared.row.CatalogRow.{CatalogRow};
 ghost use Rattle.ats_catalog_audit.specs.UnderWay.{IsAuditFault, IsUnderWay, HasTaken};
 ghost use Rattle.ats_catalog_audit.specs.Verdicts.{IsFoundRight, difference_of};
 ghost use Rattle.ats_terms.specs.Query.{IsQueryOf};

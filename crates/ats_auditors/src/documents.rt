@@ -1,7 +1,7 @@
 //! `audit-both`: the audit of a proof of all documents that have every term of a query.
 
 ghost use Rattle.std.specs.Prelude.{◌≡◌, ℕ, List, IfOk, IfErr};
-ghost use Rattle.ats_both.specs.Verdicts.{AreFoundRight};
+ghost use Rattle.ats_all_proof.specs.Verdicts.{AreFoundRight};
 ghost use Rattle.ats_plan.specs.Plan.{ComesToShelf};
 ghost use Rattle.ats_plan.specs.Runs.{IsDone, IsStopped};
 ghost use Rattle.ats_console.specs.Print.{lines_of_documents};
@@ -10,8 +10,8 @@ ghost use Rattle.ats_auditors.specs.Audited.{both_audit};
 ghost use Rattle.ats_auditors.specs.Inner.Audited.{AuditStop};
 ghost use Rattle.ats_auditors.specs.Commands.{audit_both_plan};
 
+use ats_all_proof::BothVerdict;
 use ats_base::Shelf;
-use ats_both::BothVerdict;
 use ats_console::{Line, Stop, collision_lines, document_lines, read, refused, rejected};
 use ats_hash::Hash32;
 use ats_index::Index;
@@ -31,7 +31,7 @@ fn audit_both_to_lines<H: Hash32>(
         × AreFoundRight H.hash index.now query.now bytes.now documents × (text.items ≡ lines_of_documents documents)) }
     ensures stop { IfErr result (AuditStop H.hash (both_audit H.hash index.now query.now) bytes.now) }
 {
-    let Ok(verdict) = ats_both::audit_both::<H>(alloc, index, query, bytes) else {
+    let Ok(verdict) = ats_all_proof::audit_both::<H>(alloc, index, query, bytes) else {
         return Err(Stop::Memory);
     };
     match verdict {

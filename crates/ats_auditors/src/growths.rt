@@ -1,8 +1,8 @@
 //! `audit-growth`: the audit that nothing was withdrawn.
 
 ghost use Rattle.std.specs.Prelude.{◌≡◌, IfOk, IfErr};
-ghost use Rattle.ats_consistency.specs.declared.checking.Grown.{Grown};
-ghost use Rattle.ats_growth.specs.Verdicts.{IsFoundGrown, collision_of};
+ghost use Rattle.ats_growth_check.specs.declared.checking.Grown.{Grown};
+ghost use Rattle.ats_growth_proof.specs.Verdicts.{IsFoundGrown, collision_of};
 ghost use Rattle.ats_plan.specs.Runs.{IsDone, IsStopped};
 ghost use Rattle.ats_console.specs.Kinds.{line_of_grown};
 ghost use Rattle.ats_console.specs.declared.stops.Stop.TheVariants.{Shelf as AtShelf, Memory};
@@ -13,7 +13,7 @@ ghost use Rattle.ats_auditors.specs.Commands.{audit_growth_plan};
 
 use ats_base::Shelf;
 use ats_console::{GROWTH_FILE_LIMIT, Line, Stop, grown_line, pair_lines, read, refused, rejected};
-use ats_growth::GrowthVerdict;
+use ats_growth_proof::GrowthVerdict;
 use ats_hash::Hash32;
 use ats_index::Index;
 use ats_refusal::{Rejection, growth_refusal_words};
@@ -44,7 +44,7 @@ fn audit_to_line<H: Hash32>(
         × (text.items ≡ line_of_grown grown.old grown.new)) }
     ensures stop { IfErr result (AuditStop H.hash (growth_audit H.hash older.now newer.now) bytes.now) }
 {
-    let Ok(verdict) = ats_growth::audit_growth::<H>(alloc, older, newer, bytes) else {
+    let Ok(verdict) = ats_growth_proof::audit_growth::<H>(alloc, older, newer, bytes) else {
         return Err(Stop::Memory);
     };
     match verdict {

@@ -6,7 +6,7 @@
 //! audits the queries of a number over its texts.
 //!
 //! The room stands on `ats_plan` and `ats_console` for what a command is and reads, on `ats_index` for archives, on
-//! `ats_audit`, `ats_fetch`, `ats_both`, `ats_growth` and `ats_catalog_audit` for the audits, and on `ats_prover`,
+//! `ats_audit`, `ats_text_proof`, `ats_all_proof`, `ats_growth_proof` and `ats_catalog_audit` for the audits, and on `ats_prover`,
 //! `ats_client` and `ats_accepts` for the trial. [`answer`] comes to the text that the plan of a command allows
 //! (`specs/Commands`), or stops as its plan stops. What an audit of each kind of file is stands once (`specs/Audited.antt`),
 //! and what stops it is its first collision (`specs/Collided.antt`). How a command makes its answer may change freely; the

@@ -1,8 +1,8 @@
 //! `audit-fetch`: the audit of the text of a document.
 
 ghost use Rattle.std.specs.Prelude.{◌≡◌, IfOk, IfErr};
-ghost use Rattle.ats_inclusion.specs.Value.{TextProof, IsTextProof};
-ghost use Rattle.ats_fetch.specs.Verdicts.{IsFoundOwn, difference_of};
+ghost use Rattle.ats_text_check.specs.Value.{TextProof, IsTextProof};
+ghost use Rattle.ats_text_proof.specs.Verdicts.{IsFoundOwn, difference_of};
 ghost use Rattle.ats_plan.specs.Runs.{IsDone, IsStopped};
 ghost use Rattle.ats_console.specs.Kinds.{printed_text};
 ghost use Rattle.ats_console.specs.declared.stops.Stop.TheVariants.{Shelf as AtShelf, Memory};
@@ -15,10 +15,10 @@ use ats_base::Shelf;
 use ats_console::{
     Line, Stop, TEXT_FILE_LIMIT, print_text, read, refused, rejected, strings_lines,
 };
-use ats_fetch::{TextClash, TextVerdict, TextView, audit_text};
 use ats_hash::Hash32;
 use ats_index::Index;
 use ats_refusal::{Rejection, text_refusal_words};
+use ats_text_proof::{TextClash, TextVerdict, TextView, audit_text};
 use std::alloc::{AllocError, Global};
 use std::thread::Threads;
 

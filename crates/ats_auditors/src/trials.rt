@@ -56,7 +56,7 @@ fn shown_entries(proof: &ProofView<'_>, steps: &mut Steps) -> u64
     ensures value { result ≡ shown_entries proof.now }
     ensures few { result ≤ 2 ^ 48 }
 {
-    proof.is_spelled();
+    proof.facts();
     let mut lists = proof.lists();
     let mut entries: u64 = 0;
     'lists: while let Some(list) = lists.next(steps) {

@@ -1,7 +1,7 @@
 -- The calls on a shelf, one after another.
 use Rattle.std.proofs.Common.{◌≡◌, ◌≤◌, ◌<◌, ◌+◌, ◌∙◌, ◌++◌, ◌∷◌, ℕ, List, [], Option, refl, sym, ap, arith, append_assoc, append-nil}
 use Rattle.ats_base.specs.Outside.{Ask, Asked, Calls, ReadsOn, Appends, StoresOnce}
-use Rattle.ats_base.specs.declared.outside.Deed.TheVariants.{Read, Append}
+use Rattle.ats_base.specs.declared.outside.FileCall.TheVariants.{Read, Append}
 
 -- there was no call
 pub asked_none : (told : Option (List Ask)) (such : List Ask → Type 0) → such [] → Asked told told such
@@ -31,7 +31,7 @@ asked_as before now such weaker is weaken = record {
 
 -- a read further on
 read_on : (name : List ℕ) (asks : List Ask) (from mid end : ℕ) → ReadsOn name from mid asks → from ≤ mid → mid < end
-    → ReadsOn name from end (asks ++ (record { name = name; deed = Read mid }) ∷ [])
+    → ReadsOn name from end (asks ++ (record { name = name; call = Read mid }) ∷ [])
 read_on name [] from mid end reads least less = (mid, refl, least, less, tt)
 read_on name (ask ∷ rest) from mid end (at, is, low, high, more) least less =
     (at, is, low, omega arith, read_on name rest (at + 1) mid end more (omega arith) less)
@@ -44,20 +44,20 @@ read_wider name (ask ∷ rest) from mid end (at, is, low, high, more) wide = (at
 pub asked_read : (before mid now : Option (List Ask)) (name : List ℕ) (at end : ℕ) → Asked before mid (ReadsOn name 0 at) → Calls mid now name (Read at)
     → at < end → Asked before now (ReadsOn name 0 end)
 asked_read before mid now name at end is also less =
-    asked_then before mid now (ReadsOn name 0 at) (λ further. further ≡ (record { name = name; deed = Read at }) ∷ []) (ReadsOn name 0 end) is also
+    asked_then before mid now (ReadsOn name 0 at) (λ further. further ≡ (record { name = name; call = Read at }) ∷ []) (ReadsOn name 0 end) is also
     (λ a b reads same. rw same (read_on name a 0 at end reads (omega arith) less))
 
 pub asked_wider : (before now : Option (List Ask)) (name : List ℕ) (at end : ℕ) → Asked before now (ReadsOn name 0 at) → at ≤ end → Asked before now (ReadsOn name 0 end)
 asked_wider before now name at end is wide = asked_as before now (ReadsOn name 0 at) (ReadsOn name 0 end) is (λ asks reads. read_wider name asks 0 at end reads wide)
 
-append_more : (name : List ℕ) (asks : List Ask) → Appends name asks → Appends name (asks ++ (record { name = name; deed = Append }) ∷ [])
+append_more : (name : List ℕ) (asks : List Ask) → Appends name asks → Appends name (asks ++ (record { name = name; call = Append }) ∷ [])
 append_more name [] adds = (refl, tt)
 append_more name (ask ∷ rest) (is, adds) = (is, append_more name rest adds)
 
 -- a storing goes on
 pub asked_append : (before mid now : Option (List Ask)) (name : List ℕ) → Asked before mid (StoresOnce name) → Calls mid now name Append → Asked before now (StoresOnce name)
 asked_append before mid now name is also =
-    asked_then before mid now (StoresOnce name) (λ further. further ≡ (record { name = name; deed = Append }) ∷ []) (StoresOnce name) is also
+    asked_then before mid now (StoresOnce name) (λ further. further ≡ (record { name = name; call = Append }) ∷ []) (StoresOnce name) is also
     (λ a b stores same. record {
       appends = stores.appends ++ b;
       starts = ap (λ (front : List Ask). front ++ b) stores.starts;

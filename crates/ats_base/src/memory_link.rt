@@ -86,7 +86,7 @@ impl MemLink {
     pub(crate) fn counts_its_fault(&self)
         ensures { self.now.device.faults ≡ 0 → self.now.device.last_failed ≡ false }
     {
-        let _plan = &self.plan;
+        let _facts = &self.plan;
     }
 
     pub(crate) fn set_address(&mut self, address: Bytes)

@@ -4,8 +4,8 @@ use Rattle.std.proofs.lemmas.Bool.{cases_order}
 use Rattle.ats_bound.specs.declared.walk.Walk.{Walk}
 use Rattle.ats_bound.specs.Settled.{IsSettled}
 use Rattle.ats_bound.specs.Schedule.{WholeLane, Bounding, IsNextLane, IsScheduled, CanSettleBy, IsFirstCut, IsFirstSettledBy, first_cut}
-use Rattle.ats_bound.specs.Stand.{IsStand}
-use Rattle.ats_bound.specs.Inner.Stand.{IsEnd, IsReached}
+use Rattle.ats_bound.specs.Stopped.{IsStoppedAt}
+use Rattle.ats_bound.specs.Inner.Stopped.{IsEnd, IsReached}
 use Rattle.ats_bound.proofs.OneCut.{one_schedule}
 
 -- the walk begins at the first cut
@@ -43,18 +43,18 @@ first_here Stops lanes cut reached stops = record {
 }
 
 -- if an answer is settled, the walk ends
-pub end_at : (bounds : Bounding) (lanes : List WholeLane) (r : ℕ) (cut : List ℕ) (walk : Walk) → IsReached (CanSettleBy bounds lanes r) lanes cut → IsStand bounds lanes r cut walk
+pub end_at : (bounds : Bounding) (lanes : List WholeLane) (r : ℕ) (cut : List ℕ) (walk : Walk) → IsReached (CanSettleBy bounds lanes r) lanes cut → IsStoppedAt bounds lanes r cut walk
     → IsSettled walk.brackets walk.picks walk.threshold r → IsEnd bounds lanes r walk
-end_at bounds lanes r cut walk reached stand settled =
+end_at bounds lanes r cut walk reached stopped settled =
     let here : IsFirstSettledBy bounds lanes r cut = first_here (CanSettleBy bounds lanes r) lanes cut reached (record {
       brackets = walk.brackets;
-      bounded = stand.brackets;
+      bounded = stopped.brackets;
       answer = walk.picks;
-      inside = stand.inside;
-      settled = subst (λ (t : ℕ). IsSettled walk.brackets walk.picks t r) stand.threshold settled;
+      inside = stopped.inside;
+      settled = subst (λ (t : ℕ). IsSettled walk.brackets walk.picks t r) stopped.threshold settled;
     }) in
     record {
-      first = subst (λ (c : List ℕ). IsFirstSettledBy bounds lanes r c) (sym stand.cut) here;
-      stand = subst (λ (c : List ℕ). IsStand bounds lanes r c walk) (sym stand.cut) stand;
+      first = subst (λ (c : List ℕ). IsFirstSettledBy bounds lanes r c) (sym stopped.cut) here;
+      stopped = subst (λ (c : List ℕ). IsStoppedAt bounds lanes r c walk) (sym stopped.cut) stopped;
       settled = settled;
     }

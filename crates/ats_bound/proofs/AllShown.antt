@@ -6,7 +6,7 @@ use Rattle.std.proofs.lemmas.Bool.Decides.{nat_tests}
 use Rattle.std.proofs.lemmas.List.{get_or-map, get_or-take}
 use Rattle.ats_postings.specs.declared.entry.Entry.{Entry}
 use Rattle.ats_bound.specs.Cut.{ShownLane, lane_of, rest, rest_impact}
-use Rattle.ats_bound.specs.Frontier.{IsStage, Stage, shown_on}
+use Rattle.ats_bound.specs.Cursors.{IsStage, Stage, shown_on}
 use Rattle.ats_bound.specs.Schedule.{AreAllShown, IsNextLane, IsWholeLane, WholeLane}
 use Rattle.ats_bound.proofs.Greatest.{IsGreatest}
 use Rattle.ats_bound.proofs.Shown.{get_or-shown}

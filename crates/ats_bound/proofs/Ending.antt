@@ -8,7 +8,7 @@ use Rattle.ats_bound.specs.Cut.{ShownLane, bracket, lo_of, missing, rest, thresh
 use Rattle.ats_bound.specs.Settled.{bracket_at}
 use Rattle.ats_bound.specs.Narrow.{AreNarrow}
 use Rattle.ats_bound.specs.Schedule.{WholeLane, Bounding, AreWholeLanes, CanSettleBy, IsCut, IsFirstCut, IsFirstSettledBy, IsNextLane, first_cut, shown}
-use Rattle.ats_bound.specs.Inner.Stand.{IsReached}
+use Rattle.ats_bound.specs.Inner.Stopped.{IsReached}
 use Rattle.ats_bound.specs.Lookup.{Table, looked_up}
 use Rattle.ats_bound.proofs.Advance.{first_here, reached_first, reached_after}
 use Rattle.ats_bound.proofs.Chain.{chosen_are_picks, even_settled}

@@ -8,8 +8,8 @@ use Rattle.std.proofs.lemmas.List.Folds.{list_any_more, list_any_none}
 use Rattle.std.proofs.lemmas.List.Sums.{sum_by-cons, sum_by-set, sum_by_more}
 use Rattle.ats_postings.specs.declared.entry.Entry.{Entry}
 use Rattle.ats_bound.specs.Cut.{ShownLane, lane_of, lo_of, names, shown_impact}
-use Rattle.ats_bound.specs.Frontier.{Stage, entry_on, lane_on}
-use Rattle.ats_bound.specs.Inner.Frontier.{named_by}
+use Rattle.ats_bound.specs.Cursors.{Stage, entry_on, lane_on}
+use Rattle.ats_bound.specs.Inner.Cursors.{named_by}
 use Rattle.ats_bound.specs.Schedule.{IsWholeLane, WholeLane, shown}
 use Rattle.ats_bound.proofs.Lanes.{unnamed, unnamed_has_none}
 use Rattle.ats_bound.proofs.One.{other_doc, same_doc}

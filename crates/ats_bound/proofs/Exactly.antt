@@ -21,7 +21,7 @@ use Rattle.ats_bound.specs.declared.bracket.Bracket.{Bracket}
 use Rattle.ats_bound.specs.Scored.{exact, exactly, first_document}
 use Rattle.ats_bound.specs.Inner.Scored.{AreScored, exact_brackets, score_in}
 use Rattle.ats_bound.specs.Cut.{ShownLane, lane_of, names}
-use Rattle.ats_bound.specs.Frontier.{IsStage, Stage, entry_on, lane_on, shown_on}
+use Rattle.ats_bound.specs.Cursors.{IsStage, Stage, entry_on, lane_on, shown_on}
 use Rattle.ats_bound.specs.Schedule.{AreBracketsBy, AreWholeLanes, IsOpen, WholeLane, first_cut, has_bracket, shown, whole_lane, whole_lanes}
 use Rattle.ats_bound.specs.Settled.{bracket_at}
 use Rattle.ats_bound.specs.Inner.Best.{AreBest}

@@ -21,21 +21,21 @@ module _ (met : ℕ → Bool) (of : ℕ → Bracket) (own : (doc : ℕ) → (of 
   abbrev from : ℕ → ℕ → Bool → List Bracket
   from a n here = cond here (of a ∷ gathered (suc a) n) (gathered (suc a) n)
 
-  abbrev AreBehind : ℕ → List Bracket → Type 0
-  AreBehind a brackets = (k : ℕ) → k < length brackets → a ≤ (bracket_at brackets k).doc
+  abbrev AreFrom : ℕ → List Bracket → Type 0
+  AreFrom a brackets = (k : ℕ) → k < length brackets → a ≤ (bracket_at brackets k).doc
 
-  behind_from : (a n : ℕ) (here : Bool) → AreBehind (suc a) (gathered (suc a) n) → AreBehind a (from a n here)
-  behind_from a n true later zero inside = omega (arith, own a)
-  behind_from a n true later (suc k) inside = omega (arith, later k (omega (arith, inside)))
-  behind_from a n false later k inside = omega (arith, later k inside)
+  after_from : (a n : ℕ) (here : Bool) → AreFrom (suc a) (gathered (suc a) n) → AreFrom a (from a n here)
+  after_from a n true later zero inside = omega (arith, own a)
+  after_from a n true later (suc k) inside = omega (arith, later k (omega (arith, inside)))
+  after_from a n false later k inside = omega (arith, later k inside)
 
-  behind : (a n : ℕ) → AreBehind a (gathered a n)
-  behind a zero k inside = absurd (omega (arith, inside))
-  behind a (suc n) k inside = behind_from a n (met a) (behind (suc a) n) k inside
+  all_from : (a n : ℕ) → AreFrom a (gathered a n)
+  all_from a zero k inside = absurd (omega (arith, inside))
+  all_from a (suc n) k inside = after_from a n (met a) (all_from (suc a) n) k inside
 
   rises_from : (a n : ℕ) (here : Bool) → Rise (gathered (suc a) n) → Rise (from a n here)
   rises_from a n true later i zero less inside = absurd (omega (arith, less))
-  rises_from a n true later zero (suc j) less inside = omega (arith, own a, behind (suc a) n j (omega (arith, inside)))
+  rises_from a n true later zero (suc j) less inside = omega (arith, own a, all_from (suc a) n j (omega (arith, inside)))
   rises_from a n true later (suc i) (suc j) less inside = later i j (omega (arith, less)) (omega (arith, inside))
   rises_from a n false later i j less inside = later i j less inside
 
@@ -58,7 +58,7 @@ module _ (met : ℕ → Bool) (of : ℕ → Bracket) (own : (doc : ℕ) → (of 
   has_here a n doc true is same =
       ap (λ x. x || has_bracket doc (gathered (suc a) n)) (same_doc (of a).doc doc (own a ∙ same)) ∙ is ∙ ap met same
   has_here a n doc false is same =
-      below_all doc (gathered (suc a) n) (λ i inside. omega (arith, same, behind (suc a) n i inside)) ∙ is ∙ ap met same
+      below_all doc (gathered (suc a) n) (λ i inside. omega (arith, same, all_from (suc a) n i inside)) ∙ is ∙ ap met same
 
   has_later : (a n doc : ℕ) (here : Bool) → a < doc → has_bracket doc (gathered (suc a) n) ≡ met doc → has_bracket doc (from a n here) ≡ met doc
   has_later a n doc true less later =

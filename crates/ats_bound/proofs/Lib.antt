@@ -28,9 +28,9 @@ mod Stages
 mod Slots
 mod Cells
 mod Entered
-mod KnownAfter
-mod KnownBrackets
-mod KnownSteps
+mod MetAfter
+mod MetBrackets
+mod MetSteps
 mod Open
 mod RunningSettled
 mod AllShown

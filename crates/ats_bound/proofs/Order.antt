@@ -69,4 +69,4 @@ pub places_more : (made : List Placed) (p : Placed) (n : ℕ) → map (λ p. p.p
 places_more made p n places is =
     let next : range_with_len 0 (n + 1) ≡ range_with_len 0 n ++ n ∷ [] =
     ap (range_with_len 0) (add-one n) ∙ range_more 0 n ∙ ap (λ m. range_with_len 0 n ++ m ∷ []) (zero-add n) in
-    map_push (λ (p : Placed). p.place) made p ∙ ap₂ (λ frontier last. frontier ++ last ∷ []) places is ∙ sym next
+    map_push (λ (p : Placed). p.place) made p ∙ ap₂ (λ front last. front ++ last ∷ []) places is ∙ sym next

@@ -13,7 +13,7 @@ use Rattle.std.proofs.lemmas.List.Sums.{count_by-le-length, sum_by-cons, sum_by-
 use Rattle.std.proofs.lemmas.List.Sorted.{All-permutation, IsPermutation-map, length_permutation}
 use Rattle.ats_bound.specs.declared.bracket.Bracket.{Bracket}
 use Rattle.ats_bound.specs.Inner.Best.{AreBest, count_at_least}
-use Rattle.ats_bound.specs.Frontier.{Stage, shown_on}
+use Rattle.ats_bound.specs.Cursors.{Stage, shown_on}
 use Rattle.ats_bound.specs.Cut.{threshold}
 use Rattle.ats_bound.specs.Schedule.{AreBracketsBy, Bounding}
 use Rattle.ats_bound.specs.Scored.{exact}

@@ -7,19 +7,19 @@ use Rattle.std.proofs.lemmas.Bool.{cases_lt}
 use Rattle.std.proofs.lemmas.List.{get_or-map, length-map}
 use Rattle.ats_impact.specs.Rank.{times}
 use Rattle.ats_bound.specs.declared.bracket.Bracket.{Bracket}
-use Rattle.ats_bound.specs.declared.known.Met.{Met}
+use Rattle.ats_bound.specs.declared.met_documents.Met.{Met}
 use Rattle.ats_bound.specs.Inner.Best.{AreBest, count_at_least}
 use Rattle.ats_bound.specs.Chosen.{AreBrackets, IsChosen}
 use Rattle.ats_bound.specs.Cut.{ShownLane, bracket, threshold}
-use Rattle.ats_bound.specs.Frontier.{Stage, shown_on}
-use Rattle.ats_bound.specs.Inner.Known.{lows, met_at}
+use Rattle.ats_bound.specs.Cursors.{Stage, shown_on}
+use Rattle.ats_bound.specs.Inner.MetDocuments.{lows, met_at}
 use Rattle.ats_bound.specs.QuickTest.{PassesQuickTest, TellsSettled}
 use Rattle.ats_bound.specs.Inner.Running.{DoOverlap, IsAround, IsOpenAt, IsRunning}
 use Rattle.ats_bound.specs.Schedule.{AreBracketsOf, CanSettleBy}
 use Rattle.ats_bound.specs.Settled.{ArePicks, IsSettled, bracket_at, last_row}
 use Rattle.ats_bound.proofs.Chain.{chosen_are_picks, chosen_is_settled, even_settled}
 use Rattle.ats_bound.proofs.Kept.{count_short, reached}
-use Rattle.ats_bound.proofs.KnownBrackets.{bracket_of_slot, counts_agree}
+use Rattle.ats_bound.proofs.MetBrackets.{bracket_of_slot, counts_agree}
 use Rattle.ats_bound.proofs.One.{are_brackets, one_bracketing, risen_are_distinct}
 use Rattle.ats_bound.proofs.OneAnswer.{one_chosen}
 use Rattle.ats_bound.proofs.Open.{above_least, few_above, full, no_overlap, found, sum_of_map}

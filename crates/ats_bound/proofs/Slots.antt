@@ -6,8 +6,8 @@ use Rattle.std.specs.declared.option.Option.TheVariants.{None, Some}
 use Rattle.std.proofs.lemmas.Bool.{cases_eq, cases_lt}
 use Rattle.std.proofs.lemmas.List.{get_or_append_left}
 use Rattle.std.proofs.Math.Seq.{get_or-append_seam}
-use Rattle.ats_bound.specs.declared.known.Met.{Met}
-use Rattle.ats_bound.specs.Inner.Known.{AreOnce, AreSlots, met_at}
+use Rattle.ats_bound.specs.declared.met_documents.Met.{Met}
+use Rattle.ats_bound.specs.Inner.MetDocuments.{AreOnce, AreSlots, met_at}
 
 abbrev nothing : Met
 nothing = record { doc = 0; lo = 0; named = 0 }
@@ -47,8 +47,8 @@ slots_after met m slots after are fresh here others =
         | inl before ↦
             let is : met_at (met ++ m ∷ []) slot ≡ met_at met slot = get_or_append_left met (m ∷ []) nothing slot before in
             ap (λ (x : Met). after x.doc) is ∙ others (met_at met slot).doc (fresh slot before) ∙ are.each slot before
-        | inr behind ↦
-            let place : slot ≡ length met = omega (arith, behind, inside, size) in
+        | inr past ↦
+            let place : slot ≡ length met = omega (arith, past, inside, size) in
             ap (λ n. after (met_at (met ++ m ∷ []) n).doc) place ∙ ap (λ (x : Met). after x.doc) last ∙ here ∙ ap (λ n. Some n) (sym place)
       ];
     }

@@ -6,8 +6,8 @@ use Rattle.std.proofs.lemmas.List.{get_or-map, get_or_default, length-map, map-s
 use Rattle.std.proofs.lemmas.List.Sums.{sum-map, sum_by_more}
 use Rattle.ats_bound.specs.declared.lane.Lane.{Lane}
 use Rattle.ats_bound.specs.Cut.{ShownLane, lane_of, missing, names, rest}
-use Rattle.ats_bound.specs.Frontier.{IsStage, Stage, lane_on, shown_on}
-use Rattle.ats_bound.specs.Inner.Frontier.{AreRests, named_by}
+use Rattle.ats_bound.specs.Cursors.{IsStage, Stage, lane_on, shown_on}
+use Rattle.ats_bound.specs.Inner.Cursors.{AreRests, named_by}
 use Rattle.ats_bound.specs.Schedule.{IsOpen, IsWholeLane, WholeLane, shown, whole_lane, whole_lanes}
 use Rattle.ats_bound.proofs.Shown.{cut_after, length-shown, open_more, shown-set}
 

@@ -7,9 +7,9 @@ pub mod Ranked
 pub mod Schedule
 pub mod Lookup
 pub mod Narrow
-pub mod Stand
+pub mod Stopped
 pub mod Floors
-pub mod Frontier
+pub mod Cursors
 pub mod QuickTest
 pub mod Running
 pub mod Inner

@@ -1,7 +1,7 @@
 -- A walk in which the score of each document that an entry names is known.
 use Rattle.std.specs.Prelude.{◌≡◌, ◌≢◌, ◌<◌, ℕ, List, [], length, slice_index, slice_index_or}
 use Rattle.ats_bound.specs.declared.bracket.Bracket.{Bracket}
-use Rattle.ats_bound.specs.Frontier.{Stage}
+use Rattle.ats_bound.specs.Cursors.{Stage}
 use Rattle.ats_bound.specs.Schedule.{Bounding, WholeLane}
 
 -- the state of the walk, how many rows the answer may have, and the brackets of the met documents

@@ -2,26 +2,26 @@
 
 ghost use Rattle.std.specs.Prelude.{◌≡◌, ◌↔◌, IsTrue, IfOk};
 ghost use Rattle.ats_bound.specs.Cut.{bracket};
-ghost use Rattle.ats_bound.specs.Frontier.{shown_on};
-ghost use Rattle.ats_bound.specs.Inner.Known.{AreKnown, IsKnown};
+ghost use Rattle.ats_bound.specs.Cursors.{shown_on};
+ghost use Rattle.ats_bound.specs.Inner.MetDocuments.{AreMetDocuments, IsKnown};
 ghost use Rattle.ats_bound.specs.Inner.Running.{DoOverlap, IsAround};
 ghost use Rattle.ats_bound.specs.Schedule.{AreBracketsOf};
 
 use crate::bracket::{Bracket, Brackets};
-use crate::frontier::Frontier;
-use crate::known::{Known, Met};
+use crate::cursors::Cursors;
 use crate::memory::OutOfMemory;
+use crate::met_documents::{Met, MetDocuments};
 use std::alloc::Global;
 
 /// The bracket of a document.
-pub(crate) fn bracket_of(frontier: &Frontier<'_>, met: Met) -> Bracket
-    requires { IsKnown (shown_on frontier.now) met }
-    ensures { result ≡ bracket (shown_on frontier.now) met.doc }
+pub(crate) fn bracket_of(cursors: &Cursors<'_>, met: Met) -> Bracket
+    requires { IsKnown (shown_on cursors.now) met }
+    ensures { result ≡ bracket (shown_on cursors.now) met.doc }
 {
     Bracket {
         doc: met.doc,
         lo: met.lo,
-        hi: met.lo + frontier.missing(met.named),
+        hi: met.lo + cursors.missing(met.named),
     }
 }
 
@@ -42,15 +42,15 @@ pub(crate) fn overlap(score: u64, a: Bracket, b: Bracket) -> bool
 /// The brackets of all met documents, by document ascending.
 pub(crate) fn brackets(
     alloc: Global,
-    frontier: &Frontier<'_>,
-    known: &Known,
+    cursors: &Cursors<'_>,
+    known: &MetDocuments,
 ) -> Result<Brackets, OutOfMemory>
-    requires { AreKnown (shown_on frontier.now) known.now }
-    ensures { IfOk result (AreBracketsOf (shown_on frontier.now)) }
+    requires { AreMetDocuments (shown_on cursors.now) known.now }
+    ensures { IfOk result (AreBracketsOf (shown_on cursors.now)) }
 {
     let mut all: Vec<Bracket> = Vec::with_capacity(alloc, known.len())?;
     for met in known.as_slice() {
-        all.push(bracket_of(frontier, *met))?;
+        all.push(bracket_of(cursors, *met))?;
     }
     Brackets::sorted(all)
 }

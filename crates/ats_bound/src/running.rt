@@ -4,22 +4,22 @@ ghost use Rattle.std.specs.Prelude.{◌≡◌, ◌↔◌, ◌<◌, ◌≤◌, �
 ghost use Rattle.ats_bound.specs.declared.bracket.Bracket.{Bracket as Bounded};
 ghost use Rattle.ats_bound.specs.Inner.Best.{AreBest};
 ghost use Rattle.ats_bound.specs.Cut.{bracket, threshold};
-ghost use Rattle.ats_bound.specs.Inner.Known.{AreKnown, Meets, lows, met_at};
+ghost use Rattle.ats_bound.specs.Inner.MetDocuments.{AreMetDocuments, Meets, lows, met_at};
 ghost use Rattle.ats_bound.specs.Schedule.{AreAllShown, AreBracketsOf, AreWholeLanes, IsNextLane, IsOpen, IsWholeLane, first_cut, shown, whole_lane, whole_lanes};
 ghost use Rattle.ats_bound.specs.Running.{shown_in};
 ghost use Rattle.ats_bound.specs.QuickTest.{PassesQuickTest, TellsSettled};
-ghost use Rattle.ats_bound.specs.Stand.{IsStand};
+ghost use Rattle.ats_bound.specs.Stopped.{IsStoppedAt};
 
 use crate::best::Best;
 use crate::bounds::brackets;
 use crate::choosing::choose;
-use crate::frontier::{Frontier, Gain};
-use crate::known::{Known, Met};
+use crate::cursors::{Cursors, Gain};
 use crate::lane::Lane;
 use crate::memory::OutOfMemory;
+use crate::met_documents::{Met, MetDocuments};
 use crate::settling::settled;
+use crate::unsettled::Unsettled;
 use crate::walk::Walk;
-use crate::watch::Watch;
 use ats_impact::Top;
 use std::alloc::Global;
 use std::marker::Model;
@@ -32,11 +32,11 @@ use std::marker::Model;
 #[derive(Drop)]
 pub struct Running<'a> {
     alloc: Global,
-    frontier: Frontier<'a>,
+    cursors: Cursors<'a>,
     top: Top,
-    known: Known,
+    known: MetDocuments,
     best: Best,
-    watch: Watch,
+    unsettled: Unsettled,
 }
 
 impl<'a> Model for Running<'a> {
@@ -45,9 +45,9 @@ impl<'a> Model for Running<'a> {
 
     ghost Value = { Standing };
 
-    ghost view = { λ r. record { lanes = r.frontier.lanes; rows = r.top; cut = r.frontier.cut } };
+    ghost view = { λ r. record { lanes = r.cursors.lanes; rows = r.top; cut = r.cursors.cut } };
 
-    ghost invariant = { λ r. IsRunning r.frontier r.top r.known r.best };
+    ghost invariant = { λ r. IsRunning r.cursors r.top r.known r.best };
 }
 
 // The digit of a list among those that show which lists name a document.
@@ -74,7 +74,12 @@ fn first_gain(lane: &Lane<'_>) -> Gain
 }
 
 // Adds to what is known that one more entry names a document. If memory runs out, nothing changes.
-fn meet(known: &mut Known, best: &mut Best, gain: Gain, digit: u32) -> Result<(), OutOfMemory>
+fn meet(
+    known: &mut MetDocuments,
+    best: &mut Best,
+    gain: Gain,
+    digit: u32,
+) -> Result<(), OutOfMemory>
     requires { (slot : ℕ) → slot < length known.old → (met_at known.old slot).doc ≡ gain.doc
         → ((met_at known.old slot).lo + gain.gain < 2 ^ 64) × ((met_at known.old slot).named + digit < 2 ^ 32) }
     ensures met { OnOk result (Meets known.old known.new gain.doc gain.gain digit) }
@@ -110,12 +115,16 @@ fn meet(known: &mut Known, best: &mut Best, gain: Gain, digit: u32) -> Result<()
 }
 
 // Adds the documents that the first entries of the lists name.
-fn meet_first(lanes: &[Lane<'_>], known: &mut Known, best: &mut Best) -> Result<(), OutOfMemory>
+fn meet_first(
+    lanes: &[Lane<'_>],
+    known: &mut MetDocuments,
+    best: &mut Best,
+) -> Result<(), OutOfMemory>
     requires lanes { AreWholeLanes (whole_lanes lanes.now) }
     requires none { known.old ≡ [] }
     requires best { AreBest best.old [] }
     ensures known { OnOk result
-        (AreKnown (shown (whole_lanes lanes.now) (first_cut (whole_lanes lanes.now))) known.new) }
+        (AreMetDocuments (shown (whole_lanes lanes.now) (first_cut (whole_lanes lanes.now))) known.new) }
     ensures best { OnOk result (AreBest best.new (lows known.new)) }
     ensures size { length best.new ≡ length best.old }
 {
@@ -132,17 +141,17 @@ impl<'a> Running<'a> {
         ensures { IfOk result (λ running.
             running ≡ record { lanes = whole_lanes lanes.now; rows = top; cut = first_cut (whole_lanes lanes.now) }) }
     {
-        let frontier = Frontier::new(alloc, lanes)?;
-        let mut known = Known::new(alloc);
+        let cursors = Cursors::new(alloc, lanes)?;
+        let mut known = MetDocuments::new(alloc);
         let mut best = Best::new(alloc, top)?;
         meet_first(lanes, &mut known, &mut best)?;
         Ok(Running {
             alloc,
-            frontier,
+            cursors,
             top,
             known,
             best,
-            watch: Watch::new(alloc),
+            unsettled: Unsettled::new(alloc),
         })
     }
 
@@ -151,7 +160,7 @@ impl<'a> Running<'a> {
         ensures next { MatchOption result (threshold (shown_in self.now) ≡ 0) (IsNextLane self.now.lanes self.now.cut) }
         ensures whole { IsNone result ↔ AreAllShown (shown_in self.now) }
     {
-        self.frontier.next_lane()
+        self.cursors.next_lane()
     }
 
     /// Shows one more entry of a list. If memory runs out, the walk stays at its cut.
@@ -165,11 +174,11 @@ impl<'a> Running<'a> {
         }) }
         ensures err { OnErr result (self.new ≡ self.old) }
     {
-        let gain = self.frontier.gain(lane);
+        let gain = self.cursors.gain(lane);
         meet(&mut self.known, &mut self.best, gain, digit(lane))?;
-        self.frontier.advance(lane);
+        self.cursors.advance(lane);
         let score = self.best.least();
-        self.watch.look(&self.frontier, &self.known, score);
+        self.unsettled.look(&self.cursors, &self.known, score);
         Ok(())
     }
 
@@ -180,7 +189,7 @@ impl<'a> Running<'a> {
         ensures wanted { OnErr result ((brackets : List Bounded) → AreBracketsOf (shown_in self.now) brackets
             → PassesQuickTest brackets (threshold (shown_in self.now)) self.now.rows) }
     {
-        let threshold = self.frontier.threshold();
+        let threshold = self.cursors.threshold();
         if threshold == 0 {
             return Ok(true);
         }
@@ -188,10 +197,10 @@ impl<'a> Running<'a> {
         if threshold > score {
             return Ok(false);
         }
-        if self.watch.stands(&self.frontier, &self.known, score) {
+        if self.unsettled.stands(&self.cursors, &self.known, score) {
             return Ok(false);
         }
-        let brackets = brackets(self.alloc, &self.frontier, &self.known)?;
+        let brackets = brackets(self.alloc, &self.cursors, &self.known)?;
         let picks = choose(self.alloc, brackets.as_slice(), self.top)?;
         Ok(settled(brackets.as_slice(), picks.as_slice(), threshold, self.top))
     }
@@ -199,21 +208,21 @@ impl<'a> Running<'a> {
     /// The cut, the brackets of the documents met there by document ascending, the chosen answer and the
     /// threshold.
     pub fn finish(self) -> Result<Walk, OutOfMemory>
-        ensures { IfOk result (IsStand bracket self.entry.lanes self.entry.rows self.entry.cut) }
+        ensures { IfOk result (IsStoppedAt bracket self.entry.lanes self.entry.rows self.entry.cut) }
     {
         let Running {
             alloc,
-            frontier,
+            cursors,
             top,
             known,
             best: _,
-            watch: _,
+            unsettled: _,
         } = self;
-        let threshold = frontier.threshold();
-        let brackets = brackets(alloc, &frontier, &known)?;
+        let threshold = cursors.threshold();
+        let brackets = brackets(alloc, &cursors, &known)?;
         let picks = choose(alloc, brackets.as_slice(), top)?;
         Ok(Walk {
-            cut: frontier.cut(),
+            cut: cursors.cut(),
             brackets,
             picks,
             threshold,

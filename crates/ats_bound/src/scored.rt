@@ -8,7 +8,7 @@ ghost use Rattle.std.specs.Ordering.{nat_cmp};
 ghost use Rattle.ats_bound.specs.Inner.Best.{AreBest};
 ghost use Rattle.ats_bound.specs.Chosen.{IsChosen};
 ghost use Rattle.ats_bound.specs.Cut.{names, threshold};
-ghost use Rattle.ats_bound.specs.Frontier.{IsStage, entry_on, shown_on};
+ghost use Rattle.ats_bound.specs.Cursors.{IsStage, entry_on, shown_on};
 ghost use Rattle.ats_bound.specs.Schedule.{AreAllShown, AreBracketsBy, AreWholeLanes, Bounding, IsNextLane, IsOpen, first_cut, has_bracket, shown, whole_lanes};
 ghost use Rattle.ats_bound.specs.Settled.{ArePicks, IsSettled};
 ghost use Rattle.ats_bound.specs.Scored.{AreFirstScores, exact, exactly};
@@ -18,7 +18,7 @@ ghost use Rattle.ats_bound.specs.QuickTest.{PassesQuickTest, TellsSettled};
 use crate::best::Best;
 use crate::bracket::{Bracket, Brackets};
 use crate::choosing::choose;
-use crate::frontier::Frontier;
+use crate::cursors::Cursors;
 use crate::lane::Lane;
 use crate::memory::OutOfMemory;
 use crate::walk::Walk;
@@ -34,7 +34,7 @@ use std::marker::Model;
 #[derive(Drop)]
 pub struct Scored<'a> {
     alloc: Global,
-    frontier: Frontier<'a>,
+    cursors: Cursors<'a>,
     top: Top,
     scores: BTreeMap<u32, u64>,
     best: Best,
@@ -46,9 +46,9 @@ impl<'a> Model for Scored<'a> {
 
     ghost Value = { ScoredStanding };
 
-    ghost view = { λ s. record { stage = s.frontier; rows = s.top; brackets = exact_brackets s.scores.entries } };
+    ghost view = { λ s. record { stage = s.cursors; rows = s.top; brackets = exact_brackets s.scores.entries } };
 
-    ghost invariant = { λ s. AreScored s.frontier s.top s.scores.entries s.best };
+    ghost invariant = { λ s. AreScored s.cursors s.top s.scores.entries s.best };
 }
 
 // Adds the score of a document that is not met yet.
@@ -136,13 +136,13 @@ impl<'a> Scored<'a> {
             → AreFirstScores given (whole_lanes lanes.now) scores.now
             → AreBracketsBy (exactly given) (shown_on walk.stage) walk.brackets) }
     {
-        let _rows = top.get();
-        let frontier = Frontier::new(alloc, lanes)?;
+        let _facts = top.get();
+        let cursors = Cursors::new(alloc, lanes)?;
         let mut best = Best::new(alloc, top)?;
         let scores = first_met(alloc, lanes, scores, &mut best)?;
         Ok(Scored {
             alloc,
-            frontier,
+            cursors,
             top,
             scores,
             best,
@@ -156,7 +156,7 @@ impl<'a> Scored<'a> {
         ensures whole { IsNone result ↔ AreAllShown (shown_on self.now.stage) }
         ensures stage { IsStage self.now.stage }
     {
-        self.frontier.next_lane()
+        self.cursors.next_lane()
     }
 
     /// The document that the next entry of a list names.
@@ -165,7 +165,7 @@ impl<'a> Scored<'a> {
         requires more { IsOpen self.now.stage.lanes self.now.stage.cut lane }
         ensures { result ≡ (entry_on self.now.stage lane).doc }
     {
-        self.frontier.gain(lane).doc
+        self.cursors.gain(lane).doc
     }
 
     /// The score of a met document; `None` for any other.
@@ -192,9 +192,9 @@ impl<'a> Scored<'a> {
             → AreBracketsBy (exactly given) (shown_on self.new.stage) self.new.brackets) }
         ensures err { OnErr result (self.new ≡ self.old) }
     {
-        let doc = self.frontier.gain(lane).doc;
+        let doc = self.cursors.gain(lane).doc;
         meet(&mut self.scores, &mut self.best, doc, score)?;
-        self.frontier.advance(lane);
+        self.cursors.advance(lane);
         Ok(())
     }
 
@@ -205,7 +205,7 @@ impl<'a> Scored<'a> {
         ensures tells { (bounds : Bounding) → AreBracketsBy bounds (shown_on self.now.stage) self.now.brackets
             → TellsSettled bounds self.now.stage.lanes self.now.rows self.now.stage.cut result }
     {
-        let threshold = self.frontier.threshold();
+        let threshold = self.cursors.threshold();
         threshold == 0 || threshold <= self.best.least()
     }
 
@@ -223,16 +223,16 @@ impl<'a> Scored<'a> {
     {
         let Scored {
             alloc,
-            frontier,
+            cursors,
             top,
             scores,
             best: _,
         } = self;
-        let threshold = frontier.threshold();
+        let threshold = cursors.threshold();
         let brackets = brackets(alloc, &scores)?;
         let picks = choose(alloc, brackets.as_slice(), top)?;
         Ok(Walk {
-            cut: frontier.cut(),
+            cut: cursors.cut(),
             brackets,
             picks,
             threshold,

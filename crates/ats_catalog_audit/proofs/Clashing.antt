@@ -14,8 +14,8 @@ use Rattle.ats_tree.specs.Strings.{node_string, node_strings, string_at}
 use Rattle.ats_tree.specs.Tree.{Tree, empty, leaf, node}
 use Rattle.ats_tree.specs.declared.clashing.Clash.{Clash}
 use Rattle.ats_tree.proofs.Public.{collision-moved, moved_collision, numbers-back, numbers-lead}
-use Rattle.ats_shards.specs.Strings.{RootsPlace, in_roots, roots_string, tree_strings}
-use Rattle.ats_shards.specs.Value.{Framed, IsFrame, shown_roots}
+use Rattle.ats_catalog_bytes.specs.Strings.{RootsPlace, in_roots, roots_string, tree_strings}
+use Rattle.ats_catalog_bytes.specs.Value.{Framed, IsFrame, shown_roots}
 use Rattle.ats_catalog_audit.specs.Inner.Clashes.{difference_in}
 use Rattle.ats_catalog_audit.proofs.AllShown.{all_shown, positions_rise, leaf_is, shown_many}
 

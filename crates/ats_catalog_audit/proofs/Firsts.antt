@@ -10,9 +10,9 @@ use Rattle.ats_proof.specs.Value.{Proof}
 use Rattle.ats_proof.proofs.Public.{one_value}
 use Rattle.ats_refusal.specs.declared.catalog.CatalogRefusal.{CatalogRefusal}
 use Rattle.ats_client.specs.Strings.{proof_collision}
-use Rattle.ats_shards.specs.Value.{Framed}
-use Rattle.ats_catalog.specs.Accepts.{AreProofs, IsShardRight, shard_rules, AcceptsCatalog}
-use Rattle.ats_catalog.specs.Strings.{CatalogPlace, in_proof, difference_at, proofs_collision}
+use Rattle.ats_catalog_bytes.specs.Value.{Framed}
+use Rattle.ats_catalog_check.specs.Accepts.{AreProofs, IsShardRight, shard_rules, AcceptsCatalog}
+use Rattle.ats_catalog_check.specs.Strings.{CatalogPlace, in_proof, difference_at, proofs_collision}
 
 -- ---- the proofs that bytes spell
 

@@ -2,6 +2,6 @@ pub mod Public
 mod AllShown
 mod Clashing
 mod Firsts
-mod Taken
+mod AuditState
 mod Told
 mod UnderWay

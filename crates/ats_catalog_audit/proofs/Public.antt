@@ -7,4 +7,4 @@ pub use Rattle.ats_catalog_audit.proofs.Told.{collision-collides}
 -- bytes are accepted as what is shown of one list of shards, with one list of proofs
 pub use Rattle.ats_catalog_audit.proofs.Told.{one_shards}
 -- an audit that took no index since, or those of some archives and then those of others
-pub use Rattle.ats_catalog_audit.proofs.Taken.{taken_none, taken_more}
+pub use Rattle.ats_catalog_audit.proofs.AuditState.{taken_none, taken_more}

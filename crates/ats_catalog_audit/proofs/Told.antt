@@ -7,15 +7,15 @@ use Rattle.ats_commit.specs.Archive.{Archive}
 use Rattle.ats_proof.specs.Value.{Proof}
 use Rattle.ats_client.specs.Strings.{proof_collision}
 use Rattle.ats_client.proofs.Public as client
-use Rattle.ats_shards.specs.Catalog.{catalog_root, roots_of}
-use Rattle.ats_shards.specs.Strings.{roots_collision, roots_string, roots_strings}
-use Rattle.ats_shards.specs.Value.{Framed, shown_roots}
-use Rattle.ats_shards.proofs.Public.{one_catalog}
-use Rattle.ats_catalog.specs.Accepts.{AreProofs, AcceptsCatalog}
-use Rattle.ats_catalog.specs.Bytes.{IsAcceptedCatalog}
-use Rattle.ats_catalog.specs.Headline.{IsCatalogTopOrCollides}
-use Rattle.ats_catalog.specs.Strings.{CatalogPlace, over_roots, in_proof, difference_at, proofs_collision}
-use Rattle.ats_catalog.proofs.Public.{not_refused}
+use Rattle.ats_catalog_bytes.specs.Catalog.{catalog_root, roots_of}
+use Rattle.ats_catalog_bytes.specs.Strings.{roots_collision, roots_string, roots_strings}
+use Rattle.ats_catalog_bytes.specs.Value.{Framed, shown_roots}
+use Rattle.ats_catalog_bytes.proofs.Public.{one_catalog}
+use Rattle.ats_catalog_check.specs.Accepts.{AreProofs, AcceptsCatalog}
+use Rattle.ats_catalog_check.specs.Bytes.{IsAcceptedCatalog}
+use Rattle.ats_catalog_check.specs.Headline.{IsCatalogTopOrCollides}
+use Rattle.ats_catalog_check.specs.Strings.{CatalogPlace, over_roots, in_proof, difference_at, proofs_collision}
+use Rattle.ats_catalog_check.proofs.Public.{not_refused}
 use Rattle.ats_catalog_audit.specs.Verdicts.{Shards, AreAcceptedShards, shards_collision, IsCatalogVerdict, TellsCatalogCollision, IsCatalogTopOrTold}
 use Rattle.ats_catalog_audit.specs.declared.verdict.CatalogVerdict.{CatalogVerdict}
 use Rattle.ats_catalog_audit.specs.declared.verdict.CatalogVerdict.TheVariants.{Refused, Right, Collision}

@@ -13,17 +13,17 @@ use Rattle.ats_commit.specs.Own.{AreTexts}
 use Rattle.ats_commit.specs.Root.{root_of}
 use Rattle.ats_proof.specs.Value.{Proof, IsProof}
 use Rattle.ats_client.specs.Strings.{proof_collision}
-use Rattle.ats_shards.specs.Catalog.{IsCatalog, catalog_root, root_over, roots_of}
-use Rattle.ats_shards.specs.Strings.{roots_collision}
-use Rattle.ats_shards.specs.Value.{Framed, IsCatalogProof, shown_roots}
-use Rattle.ats_shards.proofs.Public.{one_catalog}
-use Rattle.ats_catalog.specs.Accepts.{AreProofs, IsShardRight}
-use Rattle.ats_catalog.specs.Bytes.{AreVerifiedRows, IsAcceptedCatalog, IsRefusedCatalog}
-use Rattle.ats_catalog.specs.Headline.{AreRightIn}
-use Rattle.ats_catalog.specs.Merge.{Held}
-use Rattle.ats_catalog.specs.Strings.{CatalogPlace, over_roots, in_proof, difference_at, proofs_collision}
+use Rattle.ats_catalog_bytes.specs.Catalog.{IsCatalog, catalog_root, root_over, roots_of}
+use Rattle.ats_catalog_bytes.specs.Strings.{roots_collision}
+use Rattle.ats_catalog_bytes.specs.Value.{Framed, IsCatalogProof, shown_roots}
+use Rattle.ats_catalog_bytes.proofs.Public.{one_catalog}
+use Rattle.ats_catalog_check.specs.Accepts.{AreProofs, IsShardRight}
+use Rattle.ats_catalog_check.specs.Bytes.{AreVerifiedRows, IsAcceptedCatalog, IsRefusedCatalog}
+use Rattle.ats_catalog_check.specs.Headline.{AreRightIn}
+use Rattle.ats_catalog_check.specs.Merge.{Held}
+use Rattle.ats_catalog_check.specs.Strings.{CatalogPlace, over_roots, in_proof, difference_at, proofs_collision}
 use Rattle.ats_catalog_audit.specs.Inner.Firsts.{IsFirstWith}
-use Rattle.ats_catalog_audit.specs.Taken.{Taken}
+use Rattle.ats_catalog_audit.specs.AuditState.{AuditState}
 use Rattle.ats_catalog_audit.specs.UnderWay.{IsUnderWay, HasTaken}
 use Rattle.ats_catalog_audit.specs.Verdicts.{Shards, AreAcceptedShards, shards_collision, IsFoundRight, IsFoundClash, difference_of}
 use Rattle.ats_catalog_audit.specs.declared.verdict.CatalogClash.{CatalogClash}
@@ -73,9 +73,9 @@ proof_past (f ∷ shown) [] n are is = absurd are
 proof_past (f ∷ shown) (p ∷ proofs) zero are is = absurd (cc)
 proof_past (f ∷ shown) (p ∷ proofs) (suc n) are is = proof_past shown proofs n are.1 is
 
-module _ (H : List ℕ → List ℕ) (index : Archive) (audit : Taken) (left : List Framed) (roots : List (List ℕ)) (first : Option (Difference CatalogPlace)) where
+module _ (H : List ℕ → List ℕ) (index : Archive) (audit : AuditState) (left : List Framed) (roots : List (List ℕ)) (first : Option (Difference CatalogPlace)) where
   -- what it keeps then
-  abbrev pub after : Taken
+  abbrev pub after : AuditState
   after = record { query = audit.query; shown = audit.shown; root = audit.root; checked = audit.checked; left = left; roots = roots; first = first }
 
   first_goes : (archives : List Archive) (query : List (List ℕ × ℕ)) (proofs : List Proof) (next : Option Framed) → audit.query ≡ query → length audit.roots ≡ length archives
@@ -123,7 +123,7 @@ module _ (H : List ℕ → List ℕ) (index : Archive) (audit : Taken) (left : L
 
 -- ---- it ends
 
-module _ (H : List ℕ → List ℕ) (catalog : List Archive) (query : List (List ℕ × ℕ)) (r : ℕ) (bytes : List ℕ) (audit : Taken) (is : IsUnderWay H catalog query r bytes audit) where
+module _ (H : List ℕ → List ℕ) (catalog : List Archive) (query : List (List ℕ × ℕ)) (r : ℕ) (bytes : List ℕ) (audit : AuditState) (is : IsUnderWay H catalog query r bytes audit) where
   -- the root over the roots that it kept is the catalog's
   pub own_root : (root : List ℕ) → root ≡ root_over H audit.roots → root ≡ catalog_root H catalog
   own_root root so = so ∙ ap (root_over H) is.roots

@@ -1,4 +1,4 @@
 pub mod Verdicts
-pub mod Taken
+pub mod AuditState
 pub mod UnderWay
 pub mod Inner

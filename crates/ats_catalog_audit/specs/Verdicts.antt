@@ -3,14 +3,14 @@ use Rattle.std.specs.Prelude.{◌≡◌, ◌≢◌, ◌⊎◌, false, ℕ, List,
 use Rattle.ats_tree.specs.Differences.{Difference}
 use Rattle.ats_commit.specs.Archive.{Archive}
 use Rattle.ats_proof.specs.Value.{Proof}
-use Rattle.ats_shards.specs.Catalog.{IsCatalog, catalog_root}
-use Rattle.ats_shards.specs.Strings.{catalog_place}
-use Rattle.ats_shards.specs.Value.{Framed}
-use Rattle.ats_catalog.specs.Accepts.{AreProofs, merged_rows}
-use Rattle.ats_catalog.specs.Bytes.{IsAcceptedCatalog, IsRefusedCatalog}
-use Rattle.ats_catalog.specs.Headline.{AreRightIn}
-use Rattle.ats_catalog.specs.Strings.{CatalogPlace, over_roots, in_proof, catalog_collision}
-use Rattle.ats_catalog.specs.declared.row.CatalogRow.{CatalogRow}
+use Rattle.ats_catalog_bytes.specs.Catalog.{IsCatalog, catalog_root}
+use Rattle.ats_catalog_bytes.specs.Strings.{catalog_place}
+use Rattle.ats_catalog_bytes.specs.Value.{Framed}
+use Rattle.ats_catalog_check.specs.Accepts.{AreProofs, merged_rows}
+use Rattle.ats_catalog_check.specs.Bytes.{IsAcceptedCatalog, IsRefusedCatalog}
+use Rattle.ats_catalog_check.specs.Headline.{AreRightIn}
+use Rattle.ats_catalog_check.specs.Strings.{CatalogPlace, over_roots, in_proof, catalog_collision}
+use Rattle.ats_catalog_check.specs.declared.row.CatalogRow.{CatalogRow}
 use Rattle.ats_catalog_audit.specs.declared.verdict.CatalogClash.{CatalogClash}
 use Rattle.ats_catalog_audit.specs.declared.verdict.CatalogVerdict.{CatalogVerdict}
 use Rattle.ats_catalog_audit.specs.declared.verdict.CatalogVerdict.TheVariants.{Refused, Right, Collision}

@@ -4,10 +4,10 @@ ghost use Rattle.std.specs.Prelude.{◌≡◌, ◌<◌, ◌≤◌, ◌∷◌, []
 ghost use Rattle.ats_commit.specs.Archive.{Archive};
 ghost use Rattle.ats_proof.specs.Value.{Proof, IsProof};
 ghost use Rattle.ats_client.specs.Strings.{proof_collision};
-ghost use Rattle.ats_shards.specs.Seen.{framed_of};
-ghost use Rattle.ats_catalog.specs.Accepts.{IsShardRight};
-ghost use Rattle.ats_catalog.specs.Bytes.{AreVerifiedRows, IsRefusedCatalog};
-ghost use Rattle.ats_catalog.specs.Strings.{in_proof, difference_at};
+ghost use Rattle.ats_catalog_bytes.specs.Seen.{framed_of};
+ghost use Rattle.ats_catalog_check.specs.Accepts.{IsShardRight};
+ghost use Rattle.ats_catalog_check.specs.Bytes.{AreVerifiedRows, IsRefusedCatalog};
+ghost use Rattle.ats_catalog_check.specs.Strings.{in_proof, difference_at};
 ghost use Rattle.ats_client.specs.Sections as proofs;
 ghost use Rattle.ats_catalog_audit.specs.Inner.Firsts.{IsFirstWith};
 ghost use Rattle.ats_catalog_audit.specs.UnderWay.{IsAuditFault, IsUnderWay, HasTaken};
@@ -17,13 +17,13 @@ use crate::fault::AuditFault;
 use crate::memory::OutOfMemory;
 use crate::roots::first_roots_clash;
 use crate::verdict::{CatalogClash, CatalogVerdict, StringPlace};
-use ats_catalog::{CatalogFault, CatalogRefusal, CatalogRows, verify_catalog};
+use ats_catalog_bytes::{CatalogView, Shard, ShardCursor, catalog_root, root_of_view};
+use ats_catalog_check::{CatalogFault, CatalogRefusal, CatalogRows, verify_catalog};
 use ats_client::{Clash, first_clash};
 use ats_hash::{Hash32, Steps};
 use ats_impact::Top;
 use ats_index::Index;
 use ats_proof::ProofView;
-use ats_shards::{CatalogView, Shard, ShardCursor, catalog_root, root_of_view};
 use ats_terms::Query;
 use std::alloc::Global;
 use std::marker::{Model, PhantomData};
@@ -47,12 +47,12 @@ pub struct CatalogAudit<'a, H: Hash32> {
 impl<'a, H: Hash32> Model for CatalogAudit<'a, H> {
     ghost use Rattle.std.specs.Prelude.{◌≤◌, length, IfOk, option_map};
     ghost use Rattle.std.specs.List.{All};
-    ghost use Rattle.ats_shards.specs.Seen.{shards_left};
-    ghost use Rattle.ats_catalog.specs.Accepts.{IsShardRight};
-    ghost use Rattle.ats_catalog_audit.specs.Taken.{Taken};
+    ghost use Rattle.ats_catalog_bytes.specs.Seen.{shards_left};
+    ghost use Rattle.ats_catalog_check.specs.Accepts.{IsShardRight};
+    ghost use Rattle.ats_catalog_audit.specs.AuditState.{AuditState};
     ghost use Rattle.ats_catalog_audit.specs.Verdicts.{difference_of};
 
-    ghost Value = { Taken };
+    ghost Value = { AuditState };
 
     ghost view = { λ a. record {
       query = a.query.now;
@@ -172,14 +172,14 @@ impl<'a, H: Hash32> CatalogAudit<'a, H> {
     }
 
     /// Takes the index of the next shard, which may be dropped after the call. There are at most
-    /// [`MAX_SHARDS`](ats_shards::MAX_SHARDS). If memory runs out, the audit is as before.
+    /// [`MAX_SHARDS`](ats_catalog_bytes::MAX_SHARDS). If memory runs out, the audit is as before.
     pub fn take(&mut self, alloc: Global, index: &Index<H>) -> Result<(), OutOfMemory>
         requires room { length self.old.roots < 4096 }
         ensures taken { OnOk result (HasTaken H.hash (index.now ∷ []) self.old self.new) }
         ensures same { OnErr result (self.new ≡ self.old) }
     {
         // An index has texts within the limits.
-        let _texts = index.collection();
+        let _facts = index.collection();
         let mut left = self.left;
         let next = left.pass();
         let clash = self.first_with(alloc, next, index)?;

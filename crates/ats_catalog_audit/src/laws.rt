@@ -2,11 +2,11 @@
 
 ghost use Rattle.std.specs.Prelude.{ℕ, List};
 ghost use Rattle.ats_terms.specs.Query.{IsQuery};
-ghost use Rattle.ats_shards.specs.Value.{Framed};
-ghost use Rattle.ats_catalog.specs.Bytes.{IsAcceptedCatalog};
+ghost use Rattle.ats_catalog_bytes.specs.Value.{Framed};
+ghost use Rattle.ats_catalog_check.specs.Bytes.{IsAcceptedCatalog};
 ghost use Rattle.ats_catalog_audit.specs.Verdicts.{IsCatalogTopOrTold};
 
-use ats_catalog::accepted_catalogs_are_top;
+use ats_catalog_check::accepted_catalogs_are_top;
 use ats_hash::HashKind;
 
 /// For each catalog with the root, either the rows of an accepted proof are right, or the audit against that catalog

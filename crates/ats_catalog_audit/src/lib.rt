@@ -6,7 +6,7 @@
 //! of each only its root and the first collision, so each index may be dropped before the next one is read. Its end is the
 //! verdict.
 //!
-//! The room stands on `ats_catalog` for the check, on `ats_client` and `ats_shards` for the strings, and on `ats_index` for the
+//! The room stands on `ats_catalog_check` for the check, on `ats_client` and `ats_catalog_bytes` for the strings, and on `ats_index` for the
 //! archives' own. A verdict is exactly what its definition says (`specs/Verdicts.antt`). Rows are called right only if they
 //! are, and for an accepted wrong answer the audit returns two different strings with the same digest. How the parts are put
 //! together may change freely.

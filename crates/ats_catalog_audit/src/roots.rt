@@ -4,17 +4,17 @@ ghost use Rattle.std.specs.Prelude.{◌≡◌, ◌≤◌, ◌+◌, ◌*◌, ◌^
 ghost use Rattle.std.specs.List.{All};
 ghost use Rattle.ats_tree.specs.Differences.{first_collision};
 ghost use Rattle.ats_tree.specs.Kept.{kept_digests};
-ghost use Rattle.ats_shards.specs.Catalog.{string_over};
-ghost use Rattle.ats_shards.specs.Strings.{roots_string, roots_collision, tree_strings};
-ghost use Rattle.ats_shards.specs.Value.{shown_roots};
-ghost use Rattle.ats_catalog.specs.Strings.{over_roots, difference_at};
+ghost use Rattle.ats_catalog_bytes.specs.Catalog.{string_over};
+ghost use Rattle.ats_catalog_bytes.specs.Strings.{roots_string, roots_collision, tree_strings};
+ghost use Rattle.ats_catalog_bytes.specs.Value.{shown_roots};
+ghost use Rattle.ats_catalog_check.specs.Strings.{over_roots, difference_at};
 ghost use Rattle.ats_catalog_audit.specs.Inner.Clashes.{difference_in, hashed_header};
 ghost use Rattle.ats_catalog_audit.specs.Verdicts.{difference_of};
 
 use crate::shown::ShownRoots;
 use crate::verdict::{CatalogClash, StringPlace};
+use ats_catalog_bytes::CatalogView;
 use ats_hash::{Hash32, Steps};
-use ats_shards::CatalogView;
 use ats_tree::{
     Clash, HashedString, Leaves, Nodes, OutOfMemory, OwnNodes, Preimage, ShortLeaves, collides,
     first_clash, root,
@@ -151,7 +151,7 @@ fn tree_clash<H: Hash32>(
 }
 
 /// The first clash between the strings that the root of a catalog hashes over our own roots, 1 to
-/// [`MAX_SHARDS`](ats_shards::MAX_SHARDS) of them, and those that it hashes over the roots that a proof shows: the header's, then
+/// [`MAX_SHARDS`](ats_catalog_bytes::MAX_SHARDS) of them, and those that it hashes over the roots that a proof shows: the header's, then
 /// those of the tree of the roots in pre-order, a node, its left part, its right part. The tree of our own roots is kept
 /// meanwhile, in at most 64 bytes a root.
 pub(crate) fn first_roots_clash<H: Hash32>(
@@ -164,7 +164,7 @@ pub(crate) fn first_roots_clash<H: Hash32>(
     ensures { IfOk result (λ clash. option_map difference_of clash
         ≡ option_map (difference_at over_roots) (roots_collision H.hash ours.now (shown_roots view.now))) }
 {
-    view.is_in_range();
+    view.facts();
     let theirs = view.roots();
     let mut steps = Steps::new(alloc);
     match header_clash::<H>(ours, theirs, &mut steps) {

@@ -1,6 +1,6 @@
 //! What an audit of a catalog's answer finds.
 
-use ats_catalog::{CatalogRefusal, CatalogRows};
+use ats_catalog_check::{CatalogRefusal, CatalogRows};
 use ats_tree::{HashedString, Place};
 
 /// Where a string is hashed.

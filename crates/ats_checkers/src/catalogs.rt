@@ -1,8 +1,8 @@
 //! `catalog-root` and `catalog`: the root of a catalog, and the check of the proof of its answer.
 
 ghost use Rattle.std.specs.Prelude.{◌≡◌, List, IfOk, IfErr};
-ghost use Rattle.ats_catalog.specs.Bytes.{AreVerifiedRows};
-ghost use Rattle.ats_catalog.specs.declared.row.CatalogRow.{CatalogRow};
+ghost use Rattle.ats_catalog_check.specs.Bytes.{AreVerifiedRows};
+ghost use Rattle.ats_catalog_check.specs.declared.row.CatalogRow.{CatalogRow};
 ghost use Rattle.ats_plan.specs.Plan.{ComesToShelf};
 ghost use Rattle.ats_plan.specs.Runs.{IsDone, IsStopped};
 ghost use Rattle.ats_console.specs.Kinds.{CheckStop, catalog_kind};
@@ -11,12 +11,12 @@ ghost use Rattle.ats_console.specs.declared.stops.Stop.TheVariants.{Shelf as AtS
 ghost use Rattle.ats_checkers.specs.Commands.{catalog_root_plan, catalog_plan};
 
 use ats_base::Shelf;
-use ats_catalog::{CatalogFault, verify_catalog};
+use ats_catalog_bytes::catalog_root as root_over;
+use ats_catalog_check::{CatalogFault, verify_catalog};
 use ats_console::{CATALOG_FILE_LIMIT, Stop, catalog_lines, read, refused, rejected, root_line};
 use ats_hash::{Hash32, Steps};
 use ats_impact::Top;
 use ats_refusal::{Rejection, catalog_refusal_words};
-use ats_shards::catalog_root as root_over;
 use ats_terms::Query;
 use std::alloc::Global;
 

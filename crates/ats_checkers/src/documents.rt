@@ -3,10 +3,10 @@
 ghost use Rattle.std.specs.Prelude.{◌≡◌, ℕ, List, IfOk, IfErr};
 ghost use Rattle.ats_terms.specs.Query.{IsQuery};
 ghost use Rattle.ats_proof.specs.Value.{Proof};
-ghost use Rattle.ats_conjunction.specs.Bytes.{AreAcceptedBytes};
-ghost use Rattle.ats_conjunction.specs.Documents.{documents_shown};
-ghost use Rattle.ats_conjunction.specs.Headline.{AreBothOrCollide};
-ghost use Rattle.ats_conjunction.specs.Rules.{AcceptsBoth};
+ghost use Rattle.ats_all_check.specs.Bytes.{AreAcceptedBytes};
+ghost use Rattle.ats_all_check.specs.Documents.{documents_shown};
+ghost use Rattle.ats_all_check.specs.Headline.{AreBothOrCollide};
+ghost use Rattle.ats_all_check.specs.Rules.{AcceptsBoth};
 ghost use Rattle.ats_plan.specs.Plan.{ComesToShelf};
 ghost use Rattle.ats_plan.specs.Runs.{IsDone, IsStopped};
 ghost use Rattle.ats_console.specs.Print.{lines_of_documents};
@@ -14,9 +14,9 @@ ghost use Rattle.ats_console.specs.Kinds.{CheckStop, both_kind};
 ghost use Rattle.ats_console.specs.declared.stops.Stop.TheVariants.{Shelf as AtShelf, Memory};
 ghost use Rattle.ats_checkers.specs.Commands.{both_plan};
 
+use ats_all_check::{both_documents, check_both};
 use ats_base::Shelf;
 use ats_bound::Work;
-use ats_conjunction::{both_documents, check_both};
 use ats_console::{Stop, document_lines, read, refused, rejected};
 use ats_hash::{Hash32, Steps};
 use ats_proof::ProofView;
@@ -49,7 +49,7 @@ fn both_to_lines<H: Hash32>(
     ensures asked { IsQuery query.now }
 {
     // A query has terms within the limits.
-    let _terms = query.len();
+    let _facts = query.len();
     let proof = match ProofView::read(bytes) {
         Ok(proof) => proof,
         Err(fault) => return Err(rejected(Rejection::Shape(fault))),

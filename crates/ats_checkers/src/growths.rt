@@ -1,17 +1,17 @@
 //! `growth`: the check that nothing was withdrawn.
 
 ghost use Rattle.std.specs.Prelude.{◌≡◌, IfOk, IfErr};
-ghost use Rattle.ats_consistency.specs.Headline.{IsGrownOrCollides};
-ghost use Rattle.ats_consistency.specs.Value.{Growth};
-ghost use Rattle.ats_consistency.specs.Bytes.{IsAcceptedGrowth};
+ghost use Rattle.ats_growth_check.specs.Headline.{IsGrownOrCollides};
+ghost use Rattle.ats_growth_check.specs.Value.{Growth};
+ghost use Rattle.ats_growth_check.specs.Bytes.{IsAcceptedGrowth};
 ghost use Rattle.ats_plan.specs.Runs.{IsDone, IsStopped};
 ghost use Rattle.ats_console.specs.Kinds.{CheckStop, growth_kind, line_of_grown};
 ghost use Rattle.ats_console.specs.declared.stops.Stop.TheVariants.{Shelf as AtShelf, Memory};
 ghost use Rattle.ats_checkers.specs.Commands.{growth_plan};
 
 use ats_base::Shelf;
-use ats_consistency::{GrowthView, check_growth};
 use ats_console::{GROWTH_FILE_LIMIT, Stop, grown_line, read, refused, rejected};
+use ats_growth_check::{GrowthView, check_growth};
 use ats_hash::{Hash32, Steps};
 use ats_refusal::{Rejection, growth_refusal_words};
 use std::alloc::Global;

@@ -4,9 +4,9 @@
 //! with every term of a query, and `growth` that nothing was withdrawn between two roots. `catalog` checks the proof of the
 //! best documents of several archives, whose common root `catalog-root` prints.
 //!
-//! The room stands on `ats_plan` and `ats_console` for what a command is and reads, on `ats_client`, `ats_inclusion`,
-//! `ats_conjunction`, `ats_consistency`, `ats_shards` and `ats_catalog` for the checks, and on `ats_audit`, `ats_fetch`,
-//! `ats_both`, `ats_growth` and `ats_catalog_audit` only for what audits return. [`answer`] comes to the text that the plan
+//! The room stands on `ats_plan` and `ats_console` for what a command is and reads, on `ats_client`, `ats_text_check`,
+//! `ats_all_check`, `ats_growth_check`, `ats_catalog_bytes` and `ats_catalog_check` for the checks, and on `ats_audit`, `ats_text_proof`,
+//! `ats_all_proof`, `ats_growth_proof` and `ats_catalog_audit` only for what audits return. [`answer`] comes to the text that the plan
 //! of a command allows (`specs/Commands`), or stops as its plan stops. An accepted file comes with what follows for every
 //! archive with the root, and with what each audit of it returns. `verify_to_lines` is for who checks bytes that came over a
 //! link. How a command makes its answer may change freely; the order in which its inputs are tried may not.

@@ -1,8 +1,8 @@
 //! `fetch`: the check of the text of a document.
 
 ghost use Rattle.std.specs.Prelude.{◌≡◌, IfOk, IfErr};
-ghost use Rattle.ats_inclusion.specs.Value.{TextProof};
-ghost use Rattle.ats_inclusion.specs.Bytes.{IsAcceptedText};
+ghost use Rattle.ats_text_check.specs.Value.{TextProof};
+ghost use Rattle.ats_text_check.specs.Bytes.{IsAcceptedText};
 ghost use Rattle.ats_plan.specs.Runs.{IsDone, IsStopped};
 ghost use Rattle.ats_console.specs.Kinds.{CheckStop, text_kind, printed_text};
 ghost use Rattle.ats_console.specs.declared.stops.Stop.TheVariants.{Shelf as AtShelf, Memory};
@@ -11,8 +11,8 @@ ghost use Rattle.ats_checkers.specs.Commands.{fetch_plan};
 use ats_base::Shelf;
 use ats_console::{Stop, TEXT_FILE_LIMIT, print_text, read, refused, rejected};
 use ats_hash::{Hash32, Steps};
-use ats_inclusion::{TextView, check_text};
 use ats_refusal::{Rejection, text_refusal_words};
+use ats_text_check::{TextView, check_text};
 use std::alloc::Global;
 
 // The text of bytes that are accepted as that of a document, and a line feed.

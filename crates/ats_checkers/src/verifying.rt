@@ -33,7 +33,7 @@ pub fn verify_to_lines<H: Hash32>(
     ensures asked { IsQuery query.now }
 {
     // A query has terms within the limits.
-    let _terms = query.len();
+    let _facts = query.len();
     match ats_client::verify::<H>(alloc, bytes, root, query, top) {
         Ok(rows) => match lines(alloc, &rows) {
             Ok(text) => Ok(text),

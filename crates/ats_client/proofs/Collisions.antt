@@ -1,7 +1,7 @@
 -- A collision of a proof is two different strings with equal digests.
 use Rattle.std.proofs.Common.{◌≡◌, ℕ, List, Some}
 use Rattle.ats_tree.specs.Differences.{Difference}
-use Rattle.ats_tree.specs.declared.hashed.Place.{Place}
+use Rattle.ats_tree.specs.declared.places.Place.{Place}
 use Rattle.ats_tree.proofs.Public.{AreColliding, found-collides}
 use Rattle.ats_commit.specs.Archive.{Archive}
 use Rattle.ats_commit.specs.Ours.{ours}

@@ -13,8 +13,8 @@ use Rattle.ats_tree.specs.Nodes.{NodeNumbers}
 use Rattle.ats_tree.specs.Shown.{Shown}
 use Rattle.ats_tree.specs.Strings.{node_string, node_strings}
 use Rattle.ats_tree.specs.Part.{RisesFrom}
-use Rattle.ats_tree.specs.declared.hashed.Place.{Place}
-use Rattle.ats_tree.specs.declared.hashed.Tree.TheVariants.{Dictionary, List as ListOf}
+use Rattle.ats_tree.specs.declared.places.Place.{Place}
+use Rattle.ats_tree.specs.declared.places.Tree.TheVariants.{Dictionary, List as ListOf}
 use Rattle.ats_tree.proofs.Public.{bound_to, difference-collides, numbers-lead, rises-increasing, Binds, binds-both, binds-weaker, binds-one, binds-all, binds-moved}
 use Rattle.ats_lists.specs.Formats.{list_root, list_string, prefix_root, prefix_strings}
 use Rattle.ats_postings.specs.Lists.{list}

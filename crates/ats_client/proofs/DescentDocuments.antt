@@ -14,8 +14,8 @@ use Rattle.ats_tree.specs.Shown.{Shown}
 use Rattle.ats_tree.specs.Strings.{node_string, node_strings}
 use Rattle.ats_tree.specs.Part.{RisesFrom}
 use Rattle.ats_tree.specs.Differences.{Hashed}
-use Rattle.ats_tree.specs.declared.hashed.Place.{Place}
-use Rattle.ats_tree.specs.declared.hashed.Tree.TheVariants.{Documents as DocumentsTree, Terms}
+use Rattle.ats_tree.specs.declared.places.Place.{Place}
+use Rattle.ats_tree.specs.declared.places.Tree.TheVariants.{Documents as DocumentsTree, Terms}
 use Rattle.ats_tree.proofs.Public.{bound_to, numbers-lead, rises-increasing, Binds, binds-both, binds-weaker, binds-all}
 use Rattle.ats_dict.specs.declared.header.Header.{Header}
 use Rattle.ats_doctree.specs.DocumentLeaf.{doc_leaf_bytes}

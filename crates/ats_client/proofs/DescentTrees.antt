@@ -2,8 +2,8 @@
 use Rattle.std.proofs.Common.{◌≡◌, ℕ, List, map, Option}
 use Rattle.ats_tree.specs.Differences.{Hashed, moved}
 use Rattle.ats_tree.specs.Nodes.{Node, numbers_of}
-use Rattle.ats_tree.specs.declared.hashed.Place.{Place}
-use Rattle.ats_tree.specs.declared.hashed.Tree.{Tree}
+use Rattle.ats_tree.specs.declared.places.Place.{Place}
+use Rattle.ats_tree.specs.declared.places.Tree.{Tree}
 use Rattle.ats_tree.proofs.Public.{Binds, binds-moved}
 use Rattle.ats_commit.specs.Places.{in_tree}
 use Rattle.ats_commit.proofs.Public.{known-by-numbers}

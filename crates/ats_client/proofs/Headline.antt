@@ -12,7 +12,7 @@ use Rattle.ats_commit.specs.Own.{AreTexts}
 use Rattle.ats_commit.specs.Root.{root_of}
 use Rattle.ats_commit.specs.Ours.{ours}
 use Rattle.ats_tree.specs.Differences.{Difference, first_difference}
-use Rattle.ats_tree.specs.declared.hashed.Place.{Place}
+use Rattle.ats_tree.specs.declared.places.Place.{Place}
 use Rattle.ats_bound.specs.Ranked.{CutLane, AreScores, HoldsScore, cut_of}
 use Rattle.ats_proof.specs.Value.{Proof, AreDocumentsOf, present_in}
 use Rattle.ats_proof.specs.Ranges.{IsInRange}

@@ -31,8 +31,8 @@ use Rattle.ats_client.proofs.ListNotes.{names_inside}
 
 -- ---- met ids
 
-once_behind : (x n : ℕ) (xs : List ℕ) → IsStrictlyIncreasing (x ∷ xs) → x ≡ n → times n xs ≡ 0
-once_behind x n xs rises is = elim (cases_lt 0 (times n xs)) [
+once_after : (x n : ℕ) (xs : List ℕ) → IsStrictlyIncreasing (x ∷ xs) → x ≡ n → times n xs ≡ 0
+once_after x n xs rises is = elim (cases_lt 0 (times n xs)) [
   | inl some ↦
       let found = position_of n xs (omega (arith, some)) in
       let above : x < get_or xs found.0 0 = AllPairs-from_increasing (x ∷ xs) rises 0 (suc found.0) 0 (omega arith) (omega (arith, found.1)) in
@@ -45,7 +45,7 @@ rising_distinct : (xs : List ℕ) → IsStrictlyIncreasing xs → AreDistinct xs
 rising_distinct [] rises n = omega arith
 rising_distinct (x ∷ xs) rises n =
     elim (cases_order x n) [
-      | inl is ↦ omega (arith, times_same n x xs is, once_behind x n xs rises is)
+      | inl is ↦ omega (arith, times_same n x xs is, once_after x n xs rises is)
       | inr other ↦ omega (arith, times_other n x xs other, rising_distinct xs (increasing-tail x xs rises) n)
     ]
 

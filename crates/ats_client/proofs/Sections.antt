@@ -16,9 +16,9 @@ use Rattle.ats_tree.specs.Strings.{string_at, node_string}
 use Rattle.ats_tree.specs.Tree as trees
 use Rattle.ats_tree.specs.Clashes as nodes
 use Rattle.ats_tree.specs.declared.clashing.Clash as found
-use Rattle.ats_tree.specs.declared.hashed.Place.{Place}
-use Rattle.ats_tree.specs.declared.hashed.Tree.{Tree}
-use Rattle.ats_tree.specs.declared.hashed.Tree.TheVariants.{Header, Dictionary, List as ListOf, Documents as DocumentsTree, Terms}
+use Rattle.ats_tree.specs.declared.places.Place.{Place}
+use Rattle.ats_tree.specs.declared.places.Tree.{Tree}
+use Rattle.ats_tree.specs.declared.places.Tree.TheVariants.{Header, Dictionary, List as ListOf, Documents as DocumentsTree, Terms}
 use Rattle.ats_tree.proofs.Public.{collision-append, collision-moved, moved_collision, collides-is, collides-not, numbers-back, own-none}
 use Rattle.ats_postings.specs.declared.entry.Entry.{Entry}
 use Rattle.ats_lists.specs.ChainClash.{list_difference_of}

@@ -6,9 +6,9 @@ use Rattle.ats_tree.specs.Differences.{Hashed, moved, Difference, first_differen
 use Rattle.ats_tree.specs.Nodes.{numbers_of}
 use Rattle.ats_tree.specs.Shown.{Shown}
 use Rattle.ats_tree.specs.Strings.{node_strings}
-use Rattle.ats_tree.specs.declared.hashed.Place.{Place}
-use Rattle.ats_tree.specs.declared.hashed.Tree.{Tree}
-use Rattle.ats_tree.specs.declared.hashed.Tree.TheVariants.{Header, Dictionary, List as ListOf, Documents as DocumentsTree, Terms}
+use Rattle.ats_tree.specs.declared.places.Place.{Place}
+use Rattle.ats_tree.specs.declared.places.Tree.{Tree}
+use Rattle.ats_tree.specs.declared.places.Tree.TheVariants.{Header, Dictionary, List as ListOf, Documents as DocumentsTree, Terms}
 use Rattle.ats_lists.specs.Formats.{prefix_strings}
 use Rattle.ats_lists.specs.Leaf.{leaf_bytes}
 use Rattle.ats_postings.specs.Lists.{list}

@@ -45,7 +45,7 @@ pub(crate) fn lists<'a, H: Hash32>(
         ≤ steps.old + length proof.now.met + length proof.now.dict + 4 * length proof.now.slots
         + 6 * sum_by items_of_prefix proof.now.lists }
 {
-    proof.is_spelled();
+    proof.facts();
     work.begin(proof.met(), steps);
     let mut walk = Walk::over(proof.dict());
     let mut left = proof.lists();

@@ -56,7 +56,7 @@ pub fn check_shown<'a, H: Hash32>(
     ensures room { work.new.room ≡ work.old.room }
     ensures steps { steps.new + 3 * length proof.now.answer ≤ steps.old + 7 * items_of proof.now + 64 }
 {
-    proof.is_spelled();
+    proof.facts();
     opened::<H>(root, query, proof, steps)?;
     dictionary::<H>(proof, steps)?;
     slots(query, proof, steps)?;
@@ -95,7 +95,7 @@ pub fn check<'a, H: Hash32>(
     ensures room { work.new.room ≡ work.old.room }
     ensures steps { steps.new ≤ steps.old + 8 * items_of proof.now + 64 }
 {
-    proof.is_spelled();
+    proof.facts();
     let threshold = check_shown::<H>(root, query, proof, work, steps)?;
     if !settled(proof, work, threshold, top, steps) {
         return Err(Refusal::NotSettled);

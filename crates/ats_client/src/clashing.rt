@@ -4,7 +4,7 @@ ghost use Rattle.std.specs.Prelude.{◌≡◌, ℕ, ◌+◌, ◌*◌, ◌^◌, �
 ghost use Rattle.std.specs.List.{flat_map, range_with_len};
 ghost use Rattle.ats_tree.specs.Differences.{first_collision, moved};
 ghost use Rattle.ats_tree.specs.Shown.{positions_of};
-ghost use Rattle.ats_tree.specs.declared.hashed.Tree.TheVariants.{List as ListOf};
+ghost use Rattle.ats_tree.specs.declared.places.Tree.TheVariants.{List as ListOf};
 ghost use Rattle.ats_lists.specs.Formats.{prefix_root, prefix_strings};
 ghost use Rattle.ats_lists.specs.declared.format.Format.TheVariants.{Two};
 ghost use Rattle.ats_commit.specs.Ours.{ours};
@@ -23,9 +23,9 @@ ghost use Rattle.ats_client.specs.Strings.{hashed_header, strings_in, list_strin
 
 use crate::memory::OutOfMemory;
 use crate::next_term::present;
-use crate::one_tree::OneTree;
+use crate::own_tree::OwnTree;
 use crate::present_term::Present;
-use crate::shown_section::Taken;
+use crate::shown_section::PartialTreeView;
 use crate::walk::Walk;
 use ats_commit::{OwnStrings, root_of_header_in, string_of_header};
 use ats_hash::{Hash32, Steps};
@@ -129,7 +129,7 @@ fn in_tree<'a, H: Hash32, O: OwnStrings<H>, R: Revealed<'a> + Copy>(
         (map (moved (in_tree tree)) (prefix_strings H.hash format leaves (R.shown revealed.old) (R.digests revealed.old))) }
     ensures cost { steps.new ≤ steps.old + 2 ^ 35 }
 {
-    let mut taken = Taken {
+    let mut taken = PartialTreeView {
         section: *revealed,
         lends: PhantomData,
     };
@@ -137,7 +137,7 @@ fn in_tree<'a, H: Hash32, O: OwnStrings<H>, R: Revealed<'a> + Copy>(
     if own.has_shown(format, tree, leaves, query, &mut taken) {
         return None;
     }
-    let strings: OneTree<'_, H, O> = OneTree {
+    let strings: OwnTree<'_, H, O> = OwnTree {
         own,
         query,
         tree,
@@ -185,7 +185,7 @@ fn dictionary<'a, H: Hash32, O: OwnStrings<H>>(
         (map shown_entry proof.now.dict) proof.now.dict_digests) }
     ensures cost { steps.new ≤ steps.old + 2 ^ 35 }
 {
-    proof.is_spelled();
+    proof.facts();
     let leaves = proof.header().dict_leaves;
     let mut section = proof.dict();
     in_tree::<H, O, _>(
@@ -247,7 +247,7 @@ fn lists<'a, H: Hash32, O: OwnStrings<H>>(
         (flat_map (list_strings H.hash proof.now.format proof.now.met) (presented query.now proof.now)) }
     ensures cost { steps.new ≤ steps.old + 2 ^ 41 }
 {
-    proof.is_spelled();
+    proof.facts();
     let mut walk = Walk::over(proof.dict());
     let mut left = proof.lists();
     for i in 0..query.len() {
@@ -273,7 +273,7 @@ fn documents<'a, H: Hash32, O: OwnStrings<H>>(
     ensures { option_map difference_of result ≡ first_collision H.hash (ours H.hash (O.archive own.now) query.now)
         (documents_strings H.hash proof.now.header proof.now.met proof.now.docs) }
 {
-    proof.is_spelled();
+    proof.facts();
     let docs = proof.docs()?;
     let leaves = proof.header().documents;
     let mut section = docs.revealed(proof);
@@ -309,7 +309,7 @@ fn each<'a, H: Hash32, O: OwnStrings<H>>(
         (flat_map (terms_strings H.hash)
         (documents_from proof.now.met (documents_of docs.entry).leaves (documents_of docs.entry).sections)) }
 {
-    proof.is_spelled();
+    proof.facts();
     let mut left = docs;
     for _index in 0..proof.met() {
         let Some(doc) = left.next(steps) else {

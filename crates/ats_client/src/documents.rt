@@ -95,7 +95,7 @@ pub(crate) fn documents<'a, H: Hash32>(
     let Some(docs) = proof.docs() else {
         return Ok(());
     };
-    proof.is_spelled();
+    proof.facts();
     let mut left = docs;
     for index in 0..proof.met() {
         let Some(doc) = left.next(steps) else {

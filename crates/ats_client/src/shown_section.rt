@@ -3,17 +3,17 @@
 ghost use Rattle.std.specs.Prelude.{◌≡◌, length};
 
 use ats_hash::Steps;
-use ats_tree::{HashedString, Revealed, ShownTree};
+use ats_tree::{HashedString, PartialTree, Revealed};
 use std::marker::PhantomData;
 
 /// A section of a proof, from which leaves and digests are taken.
 #[derive(Clone, Copy)]
-pub(crate) struct Taken<'a, R> {
+pub(crate) struct PartialTreeView<'a, R> {
     pub(crate) section: R,
     pub(crate) lends: PhantomData<&'a u8>,
 }
 
-impl<'a, R: Revealed<'a>> ShownTree for Taken<'a, R> {
+impl<'a, R: Revealed<'a>> PartialTree for PartialTreeView<'a, R> {
     ghost shown = { λ s. R.shown s.section };
 
     ghost digests = { λ s. R.digests s.section };

@@ -18,7 +18,7 @@ pub(crate) fn slots(query: &Query, proof: &ProofView<'_>, steps: &mut Steps) -> 
     ensures cost { steps.new ≤ steps.old + 2 ^ 24 }
     ensures most { steps.new ≤ steps.old + length proof.now.dict + 2 * length proof.now.slots }
 {
-    proof.is_spelled();
+    proof.facts();
     let mut walk = Walk::over(proof.dict());
     for i in 0..query.len() {
         let slot = proof.slot(i as u32, steps);

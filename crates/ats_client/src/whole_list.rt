@@ -19,7 +19,7 @@ pub fn shows_whole_list(query: &Query, proof: &ProofView<'_>, steps: &mut Steps)
     ensures whole { result ≡ shows_whole query.now proof.now }
     ensures most { steps.new ≤ steps.old + length proof.now.dict + 2 * length proof.now.slots }
 {
-    proof.is_spelled();
+    proof.facts();
     let mut walk = Walk::over(proof.dict());
     let mut left = proof.lists();
     for i in 0..query.len() {

@@ -28,8 +28,8 @@ module _ {X : Type 0} (low : X) (items : List X) (at : ℕ → X) (inner : (i : 
         | inr same ↦ let one : j ≡ i = omega arith in less_unequal (term j) (term i) less (ap term one)
       ]
 
-  name_behind : (i p : ℕ) → i < length items → p ≡ suc i → name (at p) ≡ name (get_or items i low)
-  name_behind i p inside is = ap (λ (n : ℕ). name (at n)) is ∙ ap name (inner i inside)
+  name_after : (i p : ℕ) → i < length items → p ≡ suc i → name (at p) ≡ name (get_or items i low)
+  name_after i p inside is = ap (λ (n : ℕ). name (at n)) is ∙ ap name (inner i inside)
 
   -- a term between those of two neighbours is no item's
   pub none_between : (p : ℕ) (term : List ℕ) → p ≤ length items → byte_cmp (name (at p)) term ≡ Less → byte_cmp term (name (at (p + 1))) ≡ Less
@@ -38,6 +38,6 @@ module _ {X : Type 0} (low : X) (items : List X) (at : ℕ → X) (inner : (i : 
       let here : term ≡ name (get_or items k low) = sym same ∙ ap name (get_or_default items k d low inside) in
       elim (cases_lt k p) [
         | inl before ↦ no_fall k (p - 1) (omega arith) (omega arith)
-            (rw (← here, ← name_behind (p - 1) p (omega arith) (omega arith)) above)
-        | inr after ↦ no_fall p k after inside (rw (← here, ← name_behind p (p + 1) (omega arith) (omega arith)) below)
+            (rw (← here, ← name_after (p - 1) p (omega arith) (omega arith)) above)
+        | inr after ↦ no_fall p k after inside (rw (← here, ← name_after p (p + 1) (omega arith) (omega arith)) below)
       ]

@@ -11,8 +11,8 @@ use Rattle.ats_tree.specs.Tree.{tree_of, tree_within}
 use Rattle.ats_tree.specs.Nodes.{Node, NodeNumbers, by_path, numbers_of}
 use Rattle.ats_tree.specs.Paths.{path_of}
 use Rattle.ats_tree.specs.Strings.{string_at, node_string, node_strings}
-use Rattle.ats_tree.specs.declared.hashed.Tree.{Tree}
-use Rattle.ats_tree.specs.declared.hashed.Tree.TheVariants.{Header, Dictionary, List as ListOf, Documents, Terms}
+use Rattle.ats_tree.specs.declared.places.Tree.{Tree}
+use Rattle.ats_tree.specs.declared.places.Tree.TheVariants.{Header, Dictionary, List as ListOf, Documents, Terms}
 use Rattle.ats_tree.proofs.Public.{length-path_of, node-ours, numbers-lead, own-shown}
 use Rattle.ats_impact.specs.Score.{frequency}
 use Rattle.ats_lists.specs.Formats.{deepest, first_leaves, list_string, prefix_digests, prefix_strings}

@@ -3,9 +3,9 @@ use Rattle.std.specs.Prelude.{ℕ, zero, suc, List, [], ◌∷◌, length, map, 
 use Rattle.ats_tree.specs.Nodes.{NodeNumbers, by_path}
 use Rattle.ats_tree.specs.Paths.{path_of}
 use Rattle.ats_tree.specs.Strings.{node_string}
-use Rattle.ats_tree.specs.declared.hashed.Place.{Place}
-use Rattle.ats_tree.specs.declared.hashed.Tree.{Tree}
-use Rattle.ats_tree.specs.declared.hashed.Tree.TheVariants.{Header, Dictionary, List as ListOf, Documents, Terms}
+use Rattle.ats_tree.specs.declared.places.Place.{Place}
+use Rattle.ats_tree.specs.declared.places.Tree.{Tree}
+use Rattle.ats_tree.specs.declared.places.Tree.TheVariants.{Header, Dictionary, List as ListOf, Documents, Terms}
 use Rattle.ats_lists.specs.Formats.{list_string}
 use Rattle.ats_lists.specs.Leaf.{leaf_bytes}
 use Rattle.ats_postings.specs.Lists.{list}

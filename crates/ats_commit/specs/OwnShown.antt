@@ -5,8 +5,8 @@ use Rattle.ats_tree.specs.Nodes.{NodeNumbers, numbers_of}
 use Rattle.ats_tree.specs.OwnShown.{IsOwnShown}
 use Rattle.ats_tree.specs.Shown.{Shown}
 use Rattle.ats_tree.specs.Strings.{node_strings}
-use Rattle.ats_tree.specs.declared.hashed.Tree.{Tree}
-use Rattle.ats_tree.specs.declared.hashed.Tree.TheVariants.{List as ListOf}
+use Rattle.ats_tree.specs.declared.places.Tree.{Tree}
+use Rattle.ats_tree.specs.declared.places.Tree.TheVariants.{List as ListOf}
 use Rattle.ats_lists.specs.Formats.{first_leaves, prefix_digests, prefix_strings}
 use Rattle.ats_lists.specs.Leaf.{leaf_bytes}
 use Rattle.ats_postings.specs.Lists.{list}

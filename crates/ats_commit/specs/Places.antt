@@ -3,9 +3,9 @@ use Rattle.std.specs.Prelude.{ℕ, ◌<◌, List, length, ⊤}
 use Rattle.ats_lists.specs.Formats.{deepest}
 use Rattle.ats_lists.specs.declared.format.Format.{Format}
 use Rattle.ats_tree.specs.Nodes.{NodeNumbers}
-use Rattle.ats_tree.specs.declared.hashed.Place.{Place}
-use Rattle.ats_tree.specs.declared.hashed.Tree.{Tree}
-use Rattle.ats_tree.specs.declared.hashed.Tree.TheVariants.{Header, Dictionary, List as ListOf, Documents, Terms}
+use Rattle.ats_tree.specs.declared.places.Place.{Place}
+use Rattle.ats_tree.specs.declared.places.Tree.{Tree}
+use Rattle.ats_tree.specs.declared.places.Tree.TheVariants.{Header, Dictionary, List as ListOf, Documents, Terms}
 
 -- the place in a tree that these two numbers name
 abbrev pub in_tree : Tree → NodeNumbers → Place

@@ -9,7 +9,7 @@ ghost use Rattle.ats_commit.specs.Places.{IsOfQuery};
 use ats_hash::Hash32;
 use ats_lists::Format;
 use ats_terms::Query;
-use ats_tree::{HashedString, Place, ShownTree, Tree};
+use ats_tree::{HashedString, PartialTree, Place, Tree};
 
 /// An archive, seen as the byte strings that are hashed in its trees.
 pub trait OwnStrings<H: Hash32> {
@@ -26,7 +26,7 @@ pub trait OwnStrings<H: Hash32> {
     /// Whether what a proof in this format shows of a tree of `n` leaves is the archive's own: its leaves at their
     /// positions, and the digests of the rest. A list in another format than the archive's is not. It only compares:
     /// nothing is hashed, and no memory is taken. The header is no such tree. What is left in `shown` afterwards is any.
-    fn has_shown<S: ShownTree>(
+    fn has_shown<S: PartialTree>(
         &self,
         format: Format,
         tree: Tree,

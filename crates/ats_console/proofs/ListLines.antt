@@ -39,6 +39,6 @@ pub cut_at : (bytes : List ℕ) (at : ℕ) → NoneBefore bytes at → at < leng
     → lines_of bytes ≡ take at bytes ∷ lines_of (take (length bytes - (at + 1)) (drop (at + 1) bytes))
 cut_at bytes at none inside feed =
     let next : at + 1 ≡ suc at = omega arith in
-    let behind : take (length bytes - suc at) (drop (suc at) bytes) ≡ drop (suc at) bytes =
+    let following : take (length bytes - suc at) (drop (suc at) bytes) ≡ drop (suc at) bytes =
     take_all (length bytes - suc at) (drop (suc at) bytes) (omega (arith, length-drop (suc at) bytes)) in
-    rw (next, behind) (cut_line bytes at none inside feed)
+    rw (next, following) (cut_line bytes at none inside feed)

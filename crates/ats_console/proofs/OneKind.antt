@@ -6,29 +6,29 @@ use Rattle.ats_grammar.specs.Grammar.{proof_schema}
 use Rattle.ats_grammar.proofs.Public.{no_fault, one_fault}
 use Rattle.ats_proof.specs.Value.{fields_of}
 use Rattle.ats_proof.proofs.Public.{one_value}
-use Rattle.ats_inclusion.specs.Accepts.{AcceptsText, IsFirstTextRefusal}
-use Rattle.ats_inclusion.specs.Grammar.{text_schema}
-use Rattle.ats_inclusion.specs.Value.{IsTextProof}
-use Rattle.ats_inclusion.specs.Value as text
-use Rattle.ats_inclusion.specs.Bytes.{IsAcceptedText, IsRefusedText}
-use Rattle.ats_inclusion.proofs.Public.{one_text}
-use Rattle.ats_inclusion.proofs.Public as texts
-use Rattle.ats_consistency.specs.Grammar.{growth_schema}
-use Rattle.ats_consistency.specs.Rules.{AcceptsGrowth, IsFirstGrowthRefusal}
-use Rattle.ats_consistency.specs.Value.{IsGrowth}
-use Rattle.ats_consistency.specs.Value as growth
-use Rattle.ats_consistency.specs.Bytes.{IsAcceptedGrowth, IsRefusedGrowth}
-use Rattle.ats_consistency.proofs.Public.{one_growth}
-use Rattle.ats_consistency.proofs.Public as growths
-use Rattle.ats_conjunction.specs.Bytes.{AreAcceptedBytes, AreRefusedBytes}
-use Rattle.ats_conjunction.proofs.Public.{one_of_bytes, not_refused}
-use Rattle.ats_shards.specs.Grammar.{catalog_schema}
-use Rattle.ats_shards.specs.Value.{Framed, IsCatalogProof}
-use Rattle.ats_shards.specs.Value as shards
-use Rattle.ats_shards.proofs.Public.{one_catalog}
-use Rattle.ats_catalog.specs.Accepts.{AcceptsCatalog, IsFirstCatalogRefusal}
-use Rattle.ats_catalog.specs.Bytes.{IsAcceptedCatalog, IsRefusedCatalog}
-use Rattle.ats_catalog.proofs.Public as catalogs
+use Rattle.ats_text_check.specs.Accepts.{AcceptsText, IsFirstTextRefusal}
+use Rattle.ats_text_check.specs.Grammar.{text_schema}
+use Rattle.ats_text_check.specs.Value.{IsTextProof}
+use Rattle.ats_text_check.specs.Value as text
+use Rattle.ats_text_check.specs.Bytes.{IsAcceptedText, IsRefusedText}
+use Rattle.ats_text_check.proofs.Public.{one_text}
+use Rattle.ats_text_check.proofs.Public as texts
+use Rattle.ats_growth_check.specs.Grammar.{growth_schema}
+use Rattle.ats_growth_check.specs.Rules.{AcceptsGrowth, IsFirstGrowthRefusal}
+use Rattle.ats_growth_check.specs.Value.{IsGrowth}
+use Rattle.ats_growth_check.specs.Value as growth
+use Rattle.ats_growth_check.specs.Bytes.{IsAcceptedGrowth, IsRefusedGrowth}
+use Rattle.ats_growth_check.proofs.Public.{one_growth}
+use Rattle.ats_growth_check.proofs.Public as growths
+use Rattle.ats_all_check.specs.Bytes.{AreAcceptedBytes, AreRefusedBytes}
+use Rattle.ats_all_check.proofs.Public.{one_of_bytes, not_refused}
+use Rattle.ats_catalog_bytes.specs.Grammar.{catalog_schema}
+use Rattle.ats_catalog_bytes.specs.Value.{Framed, IsCatalogProof}
+use Rattle.ats_catalog_bytes.specs.Value as shards
+use Rattle.ats_catalog_bytes.proofs.Public.{one_catalog}
+use Rattle.ats_catalog_check.specs.Accepts.{AcceptsCatalog, IsFirstCatalogRefusal}
+use Rattle.ats_catalog_check.specs.Bytes.{IsAcceptedCatalog, IsRefusedCatalog}
+use Rattle.ats_catalog_check.proofs.Public as catalogs
 use Rattle.ats_refusal.specs.Words.{text_refusal_words, both_refusal_words, growth_refusal_words, catalog_refusal_words}
 use Rattle.ats_plan.specs.Plan.{Plan}
 use Rattle.ats_plan.specs.Inner.Sound.{IsOne}

@@ -5,16 +5,16 @@ use Rattle.ats_grammar.specs.Front.{IsBad}
 use Rattle.ats_grammar.specs.Grammar.{proof_schema}
 use Rattle.ats_proof.specs.Value.{Proof}
 use Rattle.ats_client.specs.Bytes.{IsAcceptedBytes}
-use Rattle.ats_conjunction.specs.Bytes.{AreAcceptedBytes, AreRefusedBytes}
-use Rattle.ats_inclusion.specs.Grammar.{text_schema}
-use Rattle.ats_inclusion.specs.Value.{TextProof}
-use Rattle.ats_inclusion.specs.Bytes.{IsAcceptedText, IsRefusedText}
-use Rattle.ats_consistency.specs.Grammar.{growth_schema}
-use Rattle.ats_consistency.specs.Value.{Growth}
-use Rattle.ats_consistency.specs.Bytes.{IsAcceptedGrowth, IsRefusedGrowth}
-use Rattle.ats_shards.specs.Grammar.{catalog_schema}
-use Rattle.ats_shards.specs.Value.{Framed}
-use Rattle.ats_catalog.specs.Bytes.{IsAcceptedCatalog, IsRefusedCatalog}
+use Rattle.ats_all_check.specs.Bytes.{AreAcceptedBytes, AreRefusedBytes}
+use Rattle.ats_text_check.specs.Grammar.{text_schema}
+use Rattle.ats_text_check.specs.Value.{TextProof}
+use Rattle.ats_text_check.specs.Bytes.{IsAcceptedText, IsRefusedText}
+use Rattle.ats_growth_check.specs.Grammar.{growth_schema}
+use Rattle.ats_growth_check.specs.Value.{Growth}
+use Rattle.ats_growth_check.specs.Bytes.{IsAcceptedGrowth, IsRefusedGrowth}
+use Rattle.ats_catalog_bytes.specs.Grammar.{catalog_schema}
+use Rattle.ats_catalog_bytes.specs.Value.{Framed}
+use Rattle.ats_catalog_check.specs.Bytes.{IsAcceptedCatalog, IsRefusedCatalog}
 use Rattle.ats_refusal.specs.Words.{text_refusal_words, both_refusal_words, growth_refusal_words, catalog_refusal_words}
 use Rattle.ats_plan.specs.Files.{Files, IsFile}
 use Rattle.ats_plan.specs.Plan.{Plan, Gets}

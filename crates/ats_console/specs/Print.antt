@@ -2,7 +2,7 @@
 use Rattle.std.specs.Prelude.{◌≡◌, ◌+◌, ◌++◌, ◌∷◌, [], ℕ, List, Some, decimal, codes}
 use Rattle.hex.specs.Hex.{encode_lower}
 use Rattle.ats_impact.specs.declared.rank.Row.{Row}
-use Rattle.ats_catalog.specs.declared.row.CatalogRow.{CatalogRow}
+use Rattle.ats_catalog_check.specs.declared.row.CatalogRow.{CatalogRow}
 use Rattle.ats_console.specs.Words.{root_word}
 
 -- RANK DOC LOWER UPPER

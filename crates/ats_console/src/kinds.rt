@@ -7,7 +7,7 @@ ghost use Rattle.ats_console.specs.declared.stops.Stop.TheVariants.{Rejected};
 
 use crate::rejection::refused_line;
 use crate::stops::Stop;
-use ats_consistency::Grown;
+use ats_growth_check::Grown;
 use ats_refusal::Phrase;
 use std::alloc::{AllocError, Global};
 

@@ -6,7 +6,7 @@ ghost use Rattle.ats_console.specs.Words.{root_word};
 ghost use Rattle.ats_console.specs.Print.{line_of, lines, line_of_catalog, lines_of_catalog, line_of_document, lines_of_documents, line_of_root};
 
 use ats_bound::Picks;
-use ats_catalog::{CatalogRow, CatalogRows};
+use ats_catalog_check::{CatalogRow, CatalogRows};
 use ats_impact::{Row, Rows};
 use std::alloc::{AllocError, Global};
 

@@ -74,6 +74,6 @@ has documents dict_leaves a b c is =
     record { version = at.first; numbers = rw (at.counts, at.leaves) is.numbers }
 
 -- a part put after the first bytes
-pub behind : (old new part front : List ℕ) (place end : ℕ) → take (place + length part) new ≡ take place old ++ part → take place old ≡ front
+pub one_more : (old new part front : List ℕ) (place end : ℕ) → take (place + length part) new ≡ take place old ++ part → take place old ≡ front
     → place + length part ≡ end → take end new ≡ front ++ part
-behind old new part front place end is was ends = ap (λ n. take n new) (sym ends) ∙ is ∙ ap (λ xs. xs ++ part) was
+one_more old new part front place end is was ends = ap (λ n. take n new) (sym ends) ∙ is ∙ ap (λ xs. xs ++ part) was

@@ -37,8 +37,8 @@ pub leaf_of_parts : (entries : List DictEntry) (p : ℕ) (entry : DictEntry) (fr
     → entry_at entries p ≡ entry → front ≡ length entry.term ∷ entry.term → back ≡ to_be_bytes w32 entry.f ++ entry.root
     → front ++ back ≡ get_or (dict_leaves entries) p []
 unfolding dict_leaf_bytes
-leaf_of_parts entries p entry front back inside at is behind =
-    ap (λ xs. front ++ xs) behind ∙ sym (append_assoc front (to_be_bytes w32 entry.f) entry.root)
+leaf_of_parts entries p entry front back inside at is following =
+    ap (λ xs. front ++ xs) following ∙ sym (append_assoc front (to_be_bytes w32 entry.f) entry.root)
     ∙ ap (λ (xs : List ℕ). xs ++ to_be_bytes w32 entry.f ++ entry.root) is ∙ ap leaf_of (sym at) ∙ sym (get_or-dict_leaves entries p inside)
 
 -- the terms of all leaves rise strictly, the sentinels included

@@ -12,7 +12,7 @@ use Rattle.ats_grammar.specs.declared.field_kinds.Next.TheVariants as next
 use Rattle.ats_grammar.specs.Table.{Table, Schema, End, Number, Bytes, number, head, follow, size_of}
 use Rattle.ats_grammar.specs.Front.{IsField, Come, IsFront, Spells, IsSpelling, IsLongest, IsBad, IsOpen, kind_of}
 use Rattle.ats_grammar.specs.Reading.{IsNumberOf, IsReached}
-use Rattle.ats_grammar.specs.Inner.Reading.{IsTaken, IsStuck, IsRefused}
+use Rattle.ats_grammar.specs.Inner.Reading.{IsTaken, BeginsWithNoField, IsRefused}
 
 -- ---- fields of one size
 
@@ -64,7 +64,7 @@ reached_more schema bytes t left n after reached taken = record {
 -- ---- a front that is stuck is the longest
 
 not_longer : (fields others : List (List ℕ)) (t u v : Table) (left rest : List ℕ) → Come fields t u → Come others t v
-    → concat fields ++ left ≡ concat others ++ rest → IsStuck (head u) left → length others ≤ length fields
+    → concat fields ++ left ≡ concat others ++ rest → BeginsWithNoField (head u) left → length others ≤ length fields
 not_longer fields [] t u v left rest come other e stuck = omega arith
 not_longer [] (o ∷ others) t u v left rest same other e stuck =
     absurd (stuck o (concat others ++ rest) (e ∙ append_assoc o (concat others) rest) (subst (λ (x : Table). IsField (head x) o) same other.0))
@@ -73,7 +73,7 @@ not_longer (f ∷ fields) (o ∷ others) t u v left rest come other e stuck =
     let there : Come others (follow t (number f)) v = subst (λ (x : List ℕ). Come others (follow t (number x)) v) (sym same.fields) other.1 in
     omega (arith, not_longer fields others (follow t (number f)) u v left rest come.1 there same.left stuck)
 
-pub longest : (schema : Schema) (bytes : List ℕ) (fields : List (List ℕ)) (u : Table) (left : List ℕ) → IsFront schema bytes fields u left → IsStuck (head u) left → IsLongest schema bytes fields
+pub longest : (schema : Schema) (bytes : List ℕ) (fields : List (List ℕ)) (u : Table) (left : List ℕ) → IsFront schema bytes fields u left → BeginsWithNoField (head u) left → IsLongest schema bytes fields
 longest schema bytes fields u left front stuck others v rest other =
     not_longer fields others schema.table u v left rest front.come other.come (sym front.parts ∙ other.parts) stuck
 

@@ -15,7 +15,7 @@ use Rattle.ats_grammar.specs.Grammar.{proof_schema}
 use Rattle.ats_grammar.specs.Front.{IsField, IsFront, IsSpelling, IsFirst, IsBad}
 use Rattle.ats_grammar.specs.ReaderState.{remaining}
 use Rattle.ats_grammar.specs.Reading.{IsNumberOf, IsReached}
-use Rattle.ats_grammar.specs.Inner.Reading.{IsTaken, IsStuck, IsRefused}
+use Rattle.ats_grammar.specs.Inner.Reading.{IsTaken, BeginsWithNoField, IsRefused}
 use Rattle.ats_grammar.specs.Inner.Pending.{is_cut, is_term, may_be_empty, HasOwnKind}
 use Rattle.ats_grammar.specs.PiecePosition.{IsAt, IsWaiting}
 use Rattle.ats_grammar.specs.Inner.PiecePosition.{IsOn, IsWrong}
@@ -125,17 +125,17 @@ wrong_start bytes stand rest kind at none is here = record {
 
 -- ---- whole steps
 
-pub on_taken : (stand after : PiecePosition) (rest behind : List ℕ) (n : ℕ) → stand.came ≡ 0 → IsTaken (head (remaining stand.state)) rest n behind
+pub on_taken : (stand after : PiecePosition) (rest following : List ℕ) (n : ℕ) → stand.came ≡ 0 → IsTaken (head (remaining stand.state)) rest n following
     → remaining after.state ≡ follow (remaining stand.state) n → after.came ≡ 0 → after.number ≡ 0
-    → may_be_empty after.state.part < may_be_empty stand.state.part + 2 * size_of (head (remaining stand.state)) → IsOn stand rest after behind
-on_taken stand after rest behind n none taken follows start nought smaller =
-    let long : length rest ≡ size_of (head (remaining stand.state)) + length behind =
-    omega (arith, ap length taken.parts, length-append taken.field behind, field_size (head (remaining stand.state)) taken.field taken.is) in
+    → may_be_empty after.state.part < may_be_empty stand.state.part + 2 * size_of (head (remaining stand.state)) → IsOn stand rest after following
+on_taken stand after rest following n none taken follows start nought smaller =
+    let long : length rest ≡ size_of (head (remaining stand.state)) + length following =
+    omega (arith, ap length taken.parts, length-append taken.field following, field_size (head (remaining stand.state)) taken.field taken.is) in
     record {
       at = λ bytes at. record {
         left = [];
-        reached = subst (λ (t : Table). IsReached proof_schema bytes t behind) (sym follows)
-            (reached_more proof_schema bytes (remaining stand.state) rest n behind (at_start bytes stand rest at none) taken);
+        reached = subst (λ (t : Table). IsReached proof_schema bytes t following) (sym follows)
+            (reached_more proof_schema bytes (remaining stand.state) rest n following (at_start bytes stand rest at none) taken);
         many = sym start;
         value = subst (λ m. IsNumberOf (head (remaining after.state)) [] m) (sym nought) (empty_number (head (remaining after.state)));
       };
@@ -191,7 +191,7 @@ number_wrong bytes stand size low high kind b rest is own last out at =
     let whole : number (left ++ b ∷ []) ≡ stand.number * 256 + b = omega (arith, number_last left b, subst (λ n. IsNumberOf n left stand.number) is at.value) in
     let long : length (left ++ b ∷ []) ≡ size = omega (arith, last, at.many, length-append left (b ∷ [])) in
     let many : length (left ++ b ∷ rest) ≡ stand.came + 1 + length rest = omega (arith, at.many, length-append left (b ∷ rest)) in
-    let stuck : IsStuck (next.Number size low high kind) (left ++ b ∷ rest) = λ field after e is_field.
+    let stuck : BeginsWithNoField (next.Number size low high kind) (left ++ b ∷ rest) = λ field after e is_field.
     let one : field ≡ left ++ b ∷ [] = same_front field (left ++ b ∷ []) after rest (is_field.0 ∙ sym long) (sym e ∙ sym (append_assoc left (b ∷ []) rest)) in
     let n : number field ≡ stand.number * 256 + b = ap number one ∙ whole in
     elim out [

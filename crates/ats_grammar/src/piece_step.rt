@@ -112,7 +112,7 @@ impl PiecePosition {
         if self.came == 0 && rest.len() >= next.size() as usize {
             return self.step_over(next, rest);
         }
-        let Some((byte, behind)) = rest.split_first() else {
+        let Some((byte, following)) = rest.split_first() else {
             return Ok(None);
         };
         match next {
@@ -123,7 +123,7 @@ impl PiecePosition {
                 high,
                 kind,
             } => match self.step_in_number(size, (low, high), kind, *byte) {
-                Ok(()) => Ok(Some(behind)),
+                Ok(()) => Ok(Some(following)),
                 Err(kind) => Err(kind),
             },
             Next::Bytes { size } => {

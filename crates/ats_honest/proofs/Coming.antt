@@ -59,14 +59,14 @@ AreGoodEntries low (e ∷ es) = (low ≤ e.position) × (e.position ≤ 0xffff_f
 come_entries : (es : List ShownEntry) (low : ℕ) (rest : Table) → AreGoodEntries low es → Come (flat_map entry_fields es) (grammar.dict_leaves (length es) low rest) rest
 come_entries [] low rest good = refl
 come_entries (e ∷ es) low rest good =
-    let behind : List (List ℕ) = flat_map entry_fields es in
+    let following : List (List ℕ) = flat_map entry_fields es in
     let After : ℕ → Table = λ m. grammar.dict_leaves (length es) (m + 1) rest in
     let Frequency : ℕ → Table = λ m. grammar.any_4 (λ _. Bytes 32 (After m)) in
     come_number 3 e.position low 0xffff_ffff Order (λ m. grammar.term_length (λ size. Bytes size (Frequency m)))
-    (spelled 1 (length e.entry.term) ∷ e.entry.term ∷ spelled 4 e.entry.f ∷ e.entry.root ∷ behind) rest good.0 good.1
-    (come_number 0 (length e.entry.term) 0 64 Count (λ size. Bytes size (Frequency e.position)) (e.entry.term ∷ spelled 4 e.entry.f ∷ e.entry.root ∷ behind) rest (omega arith) good.2.short (
+    (spelled 1 (length e.entry.term) ∷ e.entry.term ∷ spelled 4 e.entry.f ∷ e.entry.root ∷ following) rest good.0 good.1
+    (come_number 0 (length e.entry.term) 0 64 Count (λ size. Bytes size (Frequency e.position)) (e.entry.term ∷ spelled 4 e.entry.f ∷ e.entry.root ∷ following) rest (omega arith) good.2.short (
       refl,
-      come_number 3 e.entry.f 0 0xffff_ffff Count (λ _. Bytes 32 (After e.position)) (e.entry.root ∷ behind) rest (omega arith) (omega (arith, good.2.number))
+      come_number 3 e.entry.f 0 0xffff_ffff Count (λ _. Bytes 32 (After e.position)) (e.entry.root ∷ following) rest (omega arith) (omega (arith, good.2.number))
           (good.2.root, come_entries es (e.position + 1) rest good.3),
     ))
 

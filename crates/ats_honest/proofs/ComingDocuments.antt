@@ -22,12 +22,12 @@ AreGoodTerms low (t ∷ ts) = (low ≤ t.position) × (t.position ≤ 0xffff_fff
 come_terms : (ts : List ShownTerm) (low : ℕ) (rest : Table) → AreGoodTerms low ts → Come (flat_map term_fields ts) (grammar.term_leaves (length ts) low rest) rest
 come_terms [] low rest good = refl
 come_terms (t ∷ ts) low rest good =
-    let behind : List (List ℕ) = flat_map term_fields ts in
+    let following : List (List ℕ) = flat_map term_fields ts in
     let After : ℕ → Table = λ m. grammar.term_leaves (length ts) (m + 1) rest in
     come_number 3 t.position low 0xffff_ffff Order (λ m. grammar.term_length (λ size. Bytes size (grammar.any_2 (λ _. After m))))
-    (spelled 1 (length t.term.0) ∷ t.term.0 ∷ spelled 2 t.term.1 ∷ behind) rest good.0 good.1
-    (come_number 0 (length t.term.0) 0 64 Count (λ size. Bytes size (grammar.any_2 (λ _. After t.position))) (t.term.0 ∷ spelled 2 t.term.1 ∷ behind) rest (omega arith) good.2
-    (refl, come_number 1 t.term.1 0 0xffff Count (λ _. After t.position) behind rest (omega arith) good.3 (come_terms ts (t.position + 1) rest good.4)))
+    (spelled 1 (length t.term.0) ∷ t.term.0 ∷ spelled 2 t.term.1 ∷ following) rest good.0 good.1
+    (come_number 0 (length t.term.0) 0 64 Count (λ size. Bytes size (grammar.any_2 (λ _. After t.position))) (t.term.0 ∷ spelled 2 t.term.1 ∷ following) rest (omega arith) good.2
+    (refl, come_number 1 t.term.1 0 0xffff Count (λ _. After t.position) following rest (omega arith) good.3 (come_terms ts (t.position + 1) rest good.4)))
 
 come_slots : (ss : List Slot) (low : ℕ) (rest : Table) → AreGoodSlots low ss → Come (flat_map slot_fields ss) (grammar.doc_slots (length ss) low rest) rest
 come_slots [] low rest good = refl
@@ -48,12 +48,12 @@ come_section section good rest =
     let n = length section.slots in
     let leaves : List (List ℕ) = counted 2 term_fields section.leaves in
     let digests : List (List ℕ) = counted 2 digest_fields section.digests in
-    let behind : Table = grammar.doc_slots n 0 rest in
-    come_join (leaves ++ digests) (flat_map slot_fields section.slots) (grammar.term_section n rest) behind rest
-    (come_join leaves digests (grammar.term_section n rest) (grammar.term_digests n rest) behind
+    let following : Table = grammar.doc_slots n 0 rest in
+    come_join (leaves ++ digests) (flat_map slot_fields section.slots) (grammar.term_section n rest) following rest
+    (come_join leaves digests (grammar.term_section n rest) (grammar.term_digests n rest) following
     (come_number 1 (length section.leaves) 1 64 Count (λ m. grammar.term_leaves m 0 (grammar.term_digests n rest)) (flat_map term_fields section.leaves) (grammar.term_digests n rest) good.some good.few
     (come_terms section.leaves 0 (grammar.term_digests n rest) good.leaves))
-    (come_counted section.digests behind good.others))
+    (come_counted section.digests following good.others))
     (come_slots section.slots 0 rest good.places)
 
 -- ---- all of them
@@ -86,10 +86,10 @@ pub come_documents : (met slots : ℕ) (docs : Documents) → AreGoodDocuments m
 come_documents met slots docs good =
     let leaves : List (List ℕ) = flat_map doc_fields docs.leaves in
     let digests : List (List ℕ) = counted 4 digest_fields docs.digests in
-    let behind : Table = grammar.term_sections met slots in
-    let table : Table = grammar.doc_leaves met (grammar.doc_digests behind) in
-    come_join (leaves ++ digests) (flat_map section_fields docs.sections) table behind grammar.answer
-    (come_join leaves digests table (grammar.doc_digests behind) behind
-    (subst (λ (n : ℕ). Come leaves (grammar.doc_leaves n (grammar.doc_digests behind)) (grammar.doc_digests behind)) good.leaf_each (come_leaves docs.leaves (grammar.doc_digests behind) good.leaves))
-    (come_number 3 (length docs.digests) 0 65536 Count (λ n. grammar.digests n behind) (flat_map digest_fields docs.digests) behind (omega arith) good.few (come_digests docs.digests behind good.digests)))
+    let following : Table = grammar.term_sections met slots in
+    let table : Table = grammar.doc_leaves met (grammar.doc_digests following) in
+    come_join (leaves ++ digests) (flat_map section_fields docs.sections) table following grammar.answer
+    (come_join leaves digests table (grammar.doc_digests following) following
+    (subst (λ (n : ℕ). Come leaves (grammar.doc_leaves n (grammar.doc_digests following)) (grammar.doc_digests following)) good.leaf_each (come_leaves docs.leaves (grammar.doc_digests following) good.leaves))
+    (come_number 3 (length docs.digests) 0 65536 Count (λ n. grammar.digests n following) (flat_map digest_fields docs.digests) following (omega arith) good.few (come_digests docs.digests following good.digests)))
     (subst (λ (n : ℕ). Come (flat_map section_fields docs.sections) (grammar.term_sections n slots) grammar.answer) good.section_each (come_sections docs.sections slots good.sections))

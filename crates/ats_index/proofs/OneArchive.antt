@@ -32,23 +32,23 @@ texts_tell [] (other ∷ others) a b count short short' same = absurd (omega (ar
 texts_tell (text ∷ texts) [] a b count short short' same = absurd (omega (arith, count))
 texts_tell (text ∷ texts) (other ∷ others) a b count short short' same =
     let Short : List ℕ → Type 0 = λ some. length some ≤ 2 ^ 20 in
-    let behind : List ℕ = flat_map text_bytes texts ++ a in
-    let behind' : List ℕ = flat_map text_bytes others ++ b in
-    let joined : text_bytes text ++ behind ≡ text_bytes other ++ behind' =
+    let following : List ℕ = flat_map text_bytes texts ++ a in
+    let following' : List ℕ = flat_map text_bytes others ++ b in
+    let joined : text_bytes text ++ following ≡ text_bytes other ++ following' =
     sym (append_assoc (text_bytes text) (flat_map text_bytes texts) a) ∙ same ∙ append_assoc (text_bytes other) (flat_map text_bytes others) b in
-    let head = text_tells (text_bytes text ++ behind) text other behind behind' (omega (arith, short 0 [] (omega arith))) (omega (arith, short' 0 [] (omega arith))) refl joined in
+    let head = text_tells (text_bytes text ++ following) text other following following' (omega (arith, short 0 [] (omega arith))) (omega (arith, short' 0 [] (omega arith))) refl joined in
     ap₂ (λ one more. one ∷ more) head.0 (texts_tell texts others a b (omega (arith, count)) (All-tail Short text texts short) (All-tail Short other others short') head.1)
 
 -- the bytes after the texts
-abbrev behind_texts : (List ℕ → List ℕ) → Archive → List ℕ
-behind_texts H archive = lists_bytes (lists_of archive.texts) ++ root_of H archive
+abbrev following_texts : (List ℕ → List ℕ) → Archive → List ℕ
+following_texts H archive = lists_bytes (lists_of archive.texts) ++ root_of H archive
 
 -- the bytes of an index begin with its texts
 pub spelled_begins : (H : List ℕ → List ℕ) (bytes : List ℕ) (archive : Archive) → IsSpelling H bytes archive → BeginWith bytes archive.format archive.texts
 spelled_begins H bytes archive spelling = record {
   utf8 = spelling.utf8;
   within = spelling.within;
-  rest = behind_texts H archive;
+  rest = following_texts H archive;
   same = spelling.same ∙ texts_first H archive;
 }
 

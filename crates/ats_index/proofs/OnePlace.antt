@@ -24,12 +24,12 @@ use Rattle.ats_index.proofs.OneArchive.{text_tells, front_first, one_beginning, 
 -- ---- two runs of texts in the same bytes
 
 -- the first run has at least one text more, which follows the second
-record Longer (texts others : List (List ℕ)) (behind : List ℕ) : Type 0 where
+record Longer (texts others : List (List ℕ)) (following : List ℕ) : Type 0 where
   text : List ℕ
   more : List (List ℕ)
   rest : List ℕ
   are : texts ≡ others ++ text ∷ more
-  next : behind ≡ text_bytes text ++ rest
+  next : following ≡ text_bytes text ++ rest
 
 -- they are the same, or one of them is longer
 abbrev Meet : List (List ℕ) → List (List ℕ) → List ℕ → List ℕ → Type 0
@@ -58,11 +58,11 @@ meet [] (other ∷ others) a b short short' same =
     inr (inr (record { text = other; more = others; rest = flat_map text_bytes others ++ b; are = refl; next = same ∙ append_assoc (text_bytes other) (flat_map text_bytes others) b }))
 meet (text ∷ texts) (other ∷ others) a b short short' same =
     let Short : List ℕ → Type 0 = λ some. length some ≤ 2 ^ 20 in
-    let behind : List ℕ = flat_map text_bytes texts ++ a in
-    let behind' : List ℕ = flat_map text_bytes others ++ b in
-    let joined : text_bytes text ++ behind ≡ text_bytes other ++ behind' =
+    let following : List ℕ = flat_map text_bytes texts ++ a in
+    let following' : List ℕ = flat_map text_bytes others ++ b in
+    let joined : text_bytes text ++ following ≡ text_bytes other ++ following' =
     sym (append_assoc (text_bytes text) (flat_map text_bytes texts) a) ∙ same ∙ append_assoc (text_bytes other) (flat_map text_bytes others) b in
-    let head = text_tells (text_bytes text ++ behind) text other behind behind' (omega (arith, short 0 [] (omega arith))) (omega (arith, short' 0 [] (omega arith))) refl joined in
+    let head = text_tells (text_bytes text ++ following) text other following following' (omega (arith, short 0 [] (omega arith))) (omega (arith, short' 0 [] (omega arith))) refl joined in
     meet_by text other texts others a b head.0
     (meet texts others a b (All-tail Short text texts short) (All-tail Short other others short') head.1)
 
@@ -78,7 +78,7 @@ middle : (P : List ℕ → Type 0) (others : List (List ℕ)) (text : List ℕ) 
 middle P [] text more all = All-head P text more all
 middle P (other ∷ others) text more all = middle P others text more (All-tail P other (others ++ text ∷ more) all)
 
-module _ (texts others : List (List ℕ)) (behind : List ℕ) (good : AreGood texts) (longer : Longer texts others behind) where
+module _ (texts others : List (List ℕ)) (following : List ℕ) (good : AreGood texts) (longer : Longer texts others following) where
   more_utf8 : IsUtf8 longer.text
   more_utf8 = middle IsUtf8 others longer.text longer.more (subst (All IsUtf8) longer.are good.utf8)
 
@@ -99,13 +99,13 @@ module _ (texts others : List (List ℕ)) (behind : List ℕ) (good : AreGood te
         );
       }
 
-  more_next : behind ≡ to_be_bytes w32 (length longer.text) ++ (longer.text ++ longer.rest)
+  more_next : following ≡ to_be_bytes w32 (length longer.text) ++ (longer.text ++ longer.rest)
   unfolding text_bytes
   more_next = longer.next
 
 -- the bytes begin with no good field
 abbrev NoneGood : Field → List ℕ → Type 0
-NoneGood field behind = (good rest : List ℕ) → IsGood field good → behind ≢ good ++ rest
+NoneGood field following = (good rest : List ℕ) → IsGood field good → following ≢ good ++ rest
 
 -- bytes that begin with a number determine it, and the bytes after it
 numbers_tell : (m n : ℕ) (a b : List ℕ) → m < 2 ^ 32 → n < 2 ^ 32 → to_be_bytes w32 m ++ a ≡ to_be_bytes w32 n ++ b → (m ≡ n) × (a ≡ b)
@@ -289,9 +289,9 @@ module _ (H : List ℕ → List ℕ) (bytes : List ℕ) where
   -- the same bytes have one place
   pub one_place : (at other : ℕ) → IsLoadFault H bytes (BadIndex at) → IsLoadFault H bytes (BadIndex other) → at ≡ other
   one_place at other (inl is) (inl also) =
-      is.place ∙ one_field is.field also.field is.behind also.behind is.reached also.reached is.bad also.bad (sym is.same ∙ also.same) ∙ sym also.place
-  one_place at other (inl is) (inr also) = absurd (none_bad bytes also.format also.texts also.begins is.field is.behind is.reached is.bad is.same)
-  one_place at other (inr is) (inl also) = absurd (none_bad bytes is.format is.texts is.begins also.field also.behind also.reached also.bad also.same)
+      is.place ∙ one_field is.field also.field is.following also.following is.reached also.reached is.bad also.bad (sym is.same ∙ also.same) ∙ sym also.place
+  one_place at other (inl is) (inr also) = absurd (none_bad bytes also.format also.texts also.begins is.field is.following is.reached is.bad is.same)
+  one_place at other (inr is) (inl also) = absurd (none_bad bytes is.format is.texts is.begins also.field also.following also.reached also.bad also.same)
   one_place at other (inr is) (inr also) =
       let same : archive_in is.format is.texts ≡ archive_in also.format also.texts = one_beginning bytes is.format also.format is.texts also.texts is.begins also.begins in
       is.differs.prefix ∙ ap (λ (some : Archive). common_prefix_len nat_eq bytes (index_bytes H some)) same ∙ sym also.differs.prefix
@@ -299,7 +299,7 @@ module _ (H : List ℕ → List ℕ) (bytes : List ℕ) where
   -- an archive's index has none
   pub no_place : (at : ℕ) (archive : Archive) → IsLoadFault H bytes (BadIndex at) → IsSpelling H bytes archive → ⊥
   no_place at archive (inl is) spelling =
-      none_bad bytes archive.format archive.texts (spelled_begins H bytes archive spelling) is.field is.behind is.reached is.bad is.same
+      none_bad bytes archive.format archive.texts (spelled_begins H bytes archive spelling) is.field is.following is.reached is.bad is.same
   no_place at archive (inr is) spelling =
       let same : archive_in is.format is.texts ≡ archive =
       one_beginning bytes is.format archive.format is.texts archive.texts is.begins (spelled_begins H bytes archive spelling) in

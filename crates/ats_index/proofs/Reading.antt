@@ -13,19 +13,19 @@ pub to_end : (k : ℕ) (bytes : List ℕ) → take (length bytes - k) (drop k by
 to_end k bytes = take_all (length bytes - k) (drop k bytes) (omega (arith, length-drop k bytes))
 
 module _ (bytes : List ℕ) (format : Format) (documents : ℕ) (rest : List ℕ) (few : documents < 2 ^ 32) (is : bytes ≡ front_bytes format documents ++ rest) where
-  pub front_behind : drop 5 bytes ≡ to_be_bytes w32 documents ++ rest
+  pub front_following : drop 5 bytes ≡ to_be_bytes w32 documents ++ rest
   unfolding front_bytes
-  front_behind = ap (drop 5) is
+  front_following = ap (drop 5) is
 
   pub front_version : get_or bytes 4 0 ≡ number_of_format format
   unfolding front_bytes
   front_version = ap (λ (all : List ℕ). get_or all 4 0) is
 
   pub front_number : big_number 4 (drop 5 bytes) ≡ documents
-  front_number = ap (big_number 4) front_behind ∙ big_number-reads_back 4 documents rest few
+  front_number = ap (big_number 4) front_following ∙ big_number-reads_back 4 documents rest few
 
   pub front_rest : drop 4 (drop 5 bytes) ≡ rest
-  front_rest = ap (drop 4) front_behind
+  front_rest = ap (drop 4) front_following
 
 module _ (bytes text rest : List ℕ) (short : length text < 2 ^ 32) (is : bytes ≡ text_bytes text ++ rest) where
   joined : bytes ≡ to_be_bytes w32 (length text) ++ (text ++ rest)
@@ -35,11 +35,11 @@ module _ (bytes text rest : List ℕ) (short : length text < 2 ^ 32) (is : bytes
   pub text_number : big_number 4 bytes ≡ length text
   text_number = ap (big_number 4) joined ∙ big_number-reads_back 4 (length text) (text ++ rest) short
 
-  text_behind : drop 4 bytes ≡ text ++ rest
-  text_behind = ap (drop 4) joined
+  text_following : drop 4 bytes ≡ text ++ rest
+  text_following = ap (drop 4) joined
 
   pub text_first : take (length text) (drop 4 bytes) ≡ text
-  text_first = ap (take (length text)) text_behind ∙ take-append_seam text rest
+  text_first = ap (take (length text)) text_following ∙ take-append_seam text rest
 
   pub text_rest : drop (length text) (drop 4 bytes) ≡ rest
-  text_rest = ap (drop (length text)) text_behind ∙ drop-append_seam text rest
+  text_rest = ap (drop (length text)) text_following ∙ drop-append_seam text rest

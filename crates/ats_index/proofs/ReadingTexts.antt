@@ -27,7 +27,7 @@ module _ (bytes : List ℕ) (format : Format) (documents : ℕ) (texts : List (L
       → IsFirstBad bytes (length bytes - length rest)
   length_bad first none = record {
     field = TextLength format documents texts;
-    behind = rest;
+    following = rest;
     reached = first;
     place = omega (arith, place);
     same = is;
@@ -40,7 +40,7 @@ module _ (bytes : List ℕ) (format : Format) (documents : ℕ) (texts : List (L
       → IsFirstBad bytes (length bytes - length rest + 4)
   bytes_bad size first space next none = record {
     field = TextBytes format documents texts size;
-    behind = drop 4 rest;
+    following = drop 4 rest;
     reached = (first, space);
     place = omega (arith, place, length-append (front_bytes format documents ++ flat_map text_bytes texts) (to_be_bytes w32 size));
     same = is ∙ ap (λ xs. (front_bytes format documents ++ flat_map text_bytes texts) ++ xs) next
@@ -49,13 +49,13 @@ module _ (bytes : List ℕ) (format : Format) (documents : ℕ) (texts : List (L
   }
 
   -- one text more is read
-  pub text_read : (size : ℕ) (text behind : List ℕ) → length text ≡ size → rest ≡ to_be_bytes w32 size ++ drop 4 rest → drop 4 rest ≡ text ++ behind
-      → bytes ≡ (front_bytes format documents ++ flat_map text_bytes (texts ++ text ∷ [])) ++ behind
+  pub text_read : (size : ℕ) (text following : List ℕ) → length text ≡ size → rest ≡ to_be_bytes w32 size ++ drop 4 rest → drop 4 rest ≡ text ++ following
+      → bytes ≡ (front_bytes format documents ++ flat_map text_bytes (texts ++ text ∷ [])) ++ following
   unfolding text_bytes
-  text_read size text behind long next found =
+  text_read size text following long next found =
       let front : List ℕ = front_bytes format documents ++ flat_map text_bytes texts in
-      let head : rest ≡ text_bytes text ++ behind =
-      next ∙ ap (λ xs. to_be_bytes w32 size ++ xs) found ∙ ap (λ n. to_be_bytes w32 n ++ (text ++ behind)) (sym long)
-      ∙ sym (append_assoc (to_be_bytes w32 (length text)) text behind) in
-      is ∙ ap (λ xs. front ++ xs) head ∙ sym (append_assoc front (text_bytes text) behind)
-      ∙ ap (λ xs. xs ++ behind) (flat_map_more text_bytes (front_bytes format documents) texts text)
+      let head : rest ≡ text_bytes text ++ following =
+      next ∙ ap (λ xs. to_be_bytes w32 size ++ xs) found ∙ ap (λ n. to_be_bytes w32 n ++ (text ++ following)) (sym long)
+      ∙ sym (append_assoc (to_be_bytes w32 (length text)) text following) in
+      is ∙ ap (λ xs. front ++ xs) head ∙ sym (append_assoc front (text_bytes text) following)
+      ∙ ap (λ xs. xs ++ following) (flat_map_more text_bytes (front_bytes format documents) texts text)

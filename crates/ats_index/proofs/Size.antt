@@ -85,9 +85,9 @@ index_size H sized bytes archive is =
     let texts : List (List ℕ) = archive.texts in
     let lists : List ℕ = lists_bytes (lists_of texts) in
     let root : List ℕ = root_of H archive in
-    let behind : length (lists ++ root) ≡ 4 + (5 * length (vocabulary texts) + sum_by Length (vocabulary texts) + 6 * sum_by (λ term. frequency term texts) (vocabulary texts)) + 32 =
+    let following : length (lists ++ root) ≡ 4 + (5 * length (vocabulary texts) + sum_by Length (vocabulary texts) + 6 * sum_by (λ term. frequency term texts) (vocabulary texts)) + 32 =
     length-append lists root ∙ ap₂ (λ a b. a + b) (lists_size texts) (sized (header_tag archive.format ∷ header_of H archive)) in
-    let whole = ap length (is.same ∙ texts_first H archive) ∙ length-append (texts_bytes archive.format texts) (lists ++ root) ∙ ap₂ (λ a b. a + b) (texts_size archive.format texts) behind in
+    let whole = ap length (is.same ∙ texts_first H archive) ∙ length-append (texts_bytes archive.format texts) (lists ++ root) ∙ ap₂ (λ a b. a + b) (texts_size archive.format texts) following in
     let spelled : sum_by Length (vocabulary texts) ≤ 12 * sum_by Length texts = omega (arith, distinct_within Length texts, term_bytes texts is.utf8) in
     subst (λ n. n ≤ 2 ^ 29) (sym whole)
     (sum_small (length texts) (sum_by Length texts) (total_terms texts) (length (vocabulary texts)) (sum_by Length (vocabulary texts))

@@ -67,10 +67,10 @@ module _ (bytes : List ℕ) (low high : ℕ) (all : AreBytes bytes) (small : hig
 
   above : 4 ≤ length bytes → low ≤ big_number 4 bytes → (big_number 4 bytes ≤ high) ⊎ (high < big_number 4 bytes) → Stands bytes low high ⊎ NoneStands bytes low high
   above space least (inl most) = inl (record { n = big_number 4 bytes; least = least; most = most; same = number_stands bytes space (byte_at bytes all) })
-  above space least (inr more) = inr (λ n behind low_n n_high same. omega (arith, read n behind n_high same))
+  above space least (inr more) = inr (λ n following low_n n_high same. omega (arith, read n following n_high same))
 
   within : 4 ≤ length bytes → (big_number 4 bytes < low) ⊎ (low ≤ big_number 4 bytes) → Stands bytes low high ⊎ NoneStands bytes low high
-  within space (inl less) = inr (λ n behind low_n n_high same. omega (arith, read n behind n_high same))
+  within space (inl less) = inr (λ n following low_n n_high same. omega (arith, read n following n_high same))
   within space (inr least) = above space least (other (cases_lt high (big_number 4 bytes)))
     where
       other : (high < big_number 4 bytes) ⊎ (big_number 4 bytes ≤ high) → (big_number 4 bytes ≤ high) ⊎ (high < big_number 4 bytes)
@@ -78,7 +78,7 @@ module _ (bytes : List ℕ) (low high : ℕ) (all : AreBytes bytes) (small : hig
       other (inr is) = inl is
 
   there : (length bytes < 4) ⊎ (4 ≤ length bytes) → Stands bytes low high ⊎ NoneStands bytes low high
-  there (inl short) = inr (λ n behind low_n n_high same. omega (arith, ap (λ (xs : List ℕ). length xs) same))
+  there (inl short) = inr (λ n following low_n n_high same. omega (arith, ap (λ (xs : List ℕ). length xs) same))
   there (inr space) = within space (cases_lt (big_number 4 bytes) low)
 
   number_or_none : Stands bytes low high ⊎ NoneStands bytes low high
@@ -103,10 +103,10 @@ module _ (bytes fixed : List ℕ) where
 -- the bytes begin with a text of this length
 record TextStands (bytes : List ℕ) (size : ℕ) : Type 0 where
   text : List ℕ
-  behind : List ℕ
+  following : List ℕ
   long : length text ≡ size
   utf8 : IsUtf8 text
-  same : bytes ≡ text ++ behind
+  same : bytes ≡ text ++ following
 
 abbrev NoText : List ℕ → ℕ → Type 0
 NoText bytes size = (text more : List ℕ) → length text ≡ size → IsUtf8 text → bytes ≢ text ++ more
@@ -116,7 +116,7 @@ module _ (bytes : List ℕ) (size : ℕ) where
   text_by space true test =
       inl (record {
         text = take size bytes;
-        behind = drop size bytes;
+        following = drop size bytes;
         long = omega (arith, length-append (take size bytes) (drop size bytes), ap (λ (xs : List ℕ). length xs) (take-append-drop size bytes), length-drop size bytes);
         utf8 = IsUtf8-from_is_utf8 (take size bytes) test;
         same = sym (take-append-drop size bytes);
@@ -175,15 +175,15 @@ module _ (H : List ℕ → List ℕ) (bytes : List ℕ) where
 
 module _ (H : List ℕ → List ℕ) (bytes : List ℕ) (format : Format) (k documents : ℕ) (texts : List (List ℕ)) (rest : List ℕ) (count : length texts + suc k ≡ documents)
     (so_far : AreRead bytes format documents texts rest)
-    (next : (more : List (List ℕ)) (behind : List ℕ) → length more + k ≡ documents → AreRead bytes format documents more behind → IsIndexOrFault H bytes) where
+    (next : (more : List (List ℕ)) (following : List ℕ) → length more + k ≡ documents → AreRead bytes format documents more following → IsIndexOrFault H bytes) where
   first : AreFirst documents texts
   first = record { some = so_far.some; few = so_far.few; more = omega (arith, count); utf8 = so_far.utf8; short = so_far.short; small = so_far.small }
 
   read_more : (size : ℕ) → HasSpaceFor texts size → rest ≡ to_be_bytes w32 size ++ drop 4 rest → (found : TextStands (drop 4 rest) size)
-      → AreRead bytes format documents (texts ++ found.text ∷ []) found.behind
+      → AreRead bytes format documents (texts ++ found.text ∷ []) found.following
   read_more size space number found =
       let Length : List ℕ → ℕ = λ (t : List ℕ). length t in
-      let passed : drop (length found.text) (drop 4 rest) ≡ found.behind = ap (drop (length found.text)) found.same ∙ drop-append_seam found.text found.behind in
+      let passed : drop (length found.text) (drop 4 rest) ≡ found.following = ap (drop (length found.text)) found.same ∙ drop-append_seam found.text found.following in
       record {
         some = so_far.some;
         few = so_far.few;
@@ -191,12 +191,12 @@ module _ (H : List ℕ → List ℕ) (bytes : List ℕ) (format : Format) (k doc
         short = All-push (λ (t : List ℕ). length t ≤ 2 ^ 20) texts found.text so_far.short (omega (arith, found.long, space.short));
         small = omega (arith, space.small, found.long, sum_by-append Length texts (found.text ∷ []), sum_by-cons Length found.text []);
         left = subst AreBytes passed (All-drop (λ (n : ℕ). n < 256) (length found.text) (drop 4 rest) (All-drop (λ (n : ℕ). n < 256) 4 rest so_far.left));
-        same = text_read bytes format documents texts rest so_far.same size found.text found.behind found.long number found.same;
+        same = text_read bytes format documents texts rest so_far.same size found.text found.following found.long number found.same;
       }
 
   text_next : (size : ℕ) → HasSpaceFor texts size → rest ≡ to_be_bytes w32 size ++ drop 4 rest → TextStands (drop 4 rest) size ⊎ NoText (drop 4 rest) size → IsIndexOrFault H bytes
   text_next size space number (inl found) =
-      next (texts ++ found.text ∷ []) found.behind (omega (arith, count, length-append texts (found.text ∷ []))) (read_more size space number found)
+      next (texts ++ found.text ∷ []) found.following (omega (arith, count, length-append texts (found.text ∷ []))) (read_more size space number found)
   text_next size space number (inr none) = bad_at H bytes (length bytes - length rest + 4) (bytes_bad bytes format documents texts rest so_far.same size first space number none)
 
   most : ℕ
@@ -234,7 +234,7 @@ all_from H bytes format zero documents texts rest count so_far =
       same = so_far.same ∙ ap (λ n. (front_bytes format n ++ flat_map text_bytes texts) ++ rest) is;
     })
 all_from H bytes format (suc k) documents texts rest count so_far =
-    one_next H bytes format k documents texts rest count so_far (λ more behind count' read. all_from H bytes format k documents more behind count' read)
+    one_next H bytes format k documents texts rest count so_far (λ more following count' read. all_from H bytes format k documents more following count' read)
 
 module _ (H : List ℕ → List ℕ) (bytes : List ℕ) (all : AreBytes bytes) where
   number_next : Stands (drop 1 (drop 4 bytes)) 1 65536 ⊎ NoneStands (drop 1 (drop 4 bytes)) 1 65536
@@ -265,7 +265,7 @@ module _ (H : List ℕ → List ℕ) (bytes : List ℕ) (all : AreBytes bytes) w
       })
   counted_next format magic version (inr none) = bad_at H bytes 5 (record {
     field = Documents format;
-    behind = drop 1 (drop 4 bytes);
+    following = drop 1 (drop 4 bytes);
     reached = tt;
     place = refl;
     same = magic ∙ ap (λ xs. codes "ATSI" ++ xs) version;
@@ -280,7 +280,7 @@ module _ (H : List ℕ → List ℕ) (bytes : List ℕ) (all : AreBytes bytes) w
   version_next magic (inr none) (inl version) = counted_next Two magic version number_next
   version_next magic (inr none) (inr none') = bad_at H bytes 4 (record {
     field = Version;
-    behind = drop 4 bytes;
+    following = drop 4 bytes;
     reached = tt;
     place = refl;
     same = magic;
@@ -291,7 +291,7 @@ module _ (H : List ℕ → List ℕ) (bytes : List ℕ) (all : AreBytes bytes) w
   magic_next (inl magic) = version_next magic (fixed_or_none (drop 4 bytes) (1 ∷ [])) (fixed_or_none (drop 4 bytes) (2 ∷ []))
   magic_next (inr none) = bad_at H bytes 0 (record {
     field = Magic;
-    behind = bytes;
+    following = bytes;
     reached = tt;
     place = refl;
     same = refl;

@@ -59,8 +59,8 @@ IsGood (TextBytes format documents texts size) bytes = (length bytes ≡ size) �
 -- are wrong or cut off
 pub record IsFirstBad (bytes : List ℕ) (at : ℕ) : Type 0 where
   pub field : Field
-  pub behind : List ℕ
+  pub following : List ℕ
   pub reached : IsReached field
   pub place : at ≡ length (front_of field)
-  pub same : bytes ≡ front_of field ++ behind
-  pub bad : (good rest : List ℕ) → IsGood field good → behind ≢ good ++ rest
+  pub same : bytes ≡ front_of field ++ following
+  pub bad : (good rest : List ℕ) → IsGood field good → following ≢ good ++ rest

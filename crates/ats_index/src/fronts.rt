@@ -11,10 +11,10 @@ ghost use Rattle.ats_commit.specs.OwnShown.{IsOwnFront, IsOwnListShown};
 use ats_hash::{HashKind, Steps};
 use ats_lists::{Chain, ListDigests, ListLeaves};
 use ats_postings::Entry;
-use ats_tree::{Leaves, ShortLeaves, ShownTree};
+use ats_tree::{Leaves, PartialTree, ShortLeaves};
 
 /// Whether what is shown of a list of `n` entries is of the list of these entries, whose digests these are.
-pub(crate) fn list_has_shown<H: HashKind, S: ShownTree>(
+pub(crate) fn list_has_shown<H: HashKind, S: PartialTree>(
     digests: &ListDigests,
     entries: &[Entry],
     n: u32,
@@ -38,7 +38,7 @@ pub(crate) fn list_has_shown<H: HashKind, S: ShownTree>(
 }
 
 // The same of a list in blocks: the first entries are shown, at least one, and the digests that they need.
-fn chain_has_shown<H: HashKind, S: ShownTree>(
+fn chain_has_shown<H: HashKind, S: PartialTree>(
     chain: &Chain,
     entries: &[Entry],
     n: u32,
@@ -61,7 +61,7 @@ fn chain_has_shown<H: HashKind, S: ShownTree>(
 }
 
 // How many leaves are shown, if they are those of the first entries.
-fn first_shown<S: ShownTree>(entries: &[Entry], shown: &mut S, steps: &mut Steps) -> Option<u32>
+fn first_shown<S: PartialTree>(entries: &[Entry], shown: &mut S, steps: &mut Steps) -> Option<u32>
     requires few { length entries.now ≤ 65536 }
     requires short { All (λ s. length s.1 ≤ 127) (S.shown shown.old) }
     requires space { steps.old ≤ 2 ^ 63 }

@@ -66,28 +66,28 @@ fn run_of<'a>(
     collection: &'a Collection,
     counts: &[TermCounts],
     first: u32,
-    behind: u32,
+    end: u32,
 ) -> Result<ListsBuilder<'a>, OutOfMemory>
-    requires order { first ≤ behind }
-    requires inside { behind ≤ length collection.now }
+    requires order { first ≤ end }
+    requires inside { end ≤ length collection.now }
     requires counts { counts.now ≡ all_counts collection.now }
-    ensures { IfOk result (λ run. run ≡ (collection.now, first, behind)) }
+    ensures { IfOk result (λ run. run ≡ (collection.now, first, end)) }
 {
     let mut run = ListsBuilder::starting_at(alloc, collection, first);
-    for doc in first..behind {
+    for doc in first..end {
         run = run.add(&counts[doc as usize])?;
     }
     Ok(run)
 }
 
 // Where to cut these documents, so that about as many counted terms are before the cut as after it.
-fn middle_of(counts: &[TermCounts], first: u32, behind: u32) -> u32
-    requires order { first ≤ behind }
-    requires inside { behind ≤ length counts.now }
+fn middle_of(counts: &[TermCounts], first: u32, end: u32) -> u32
+    requires order { first ≤ end }
+    requires inside { end ≤ length counts.now }
     ensures low { first ≤ result }
-    ensures high { result ≤ behind }
+    ensures high { result ≤ end }
 {
-    let (mut low, mut high) = (first, behind);
+    let (mut low, mut high) = (first, end);
     let (mut front, mut back): (usize, usize) = (0, 0);
     while low < high {
         if front <= back {
@@ -109,28 +109,28 @@ fn run_by_threads<'a, R: Threads + Sync>(
     collection: &'a Collection,
     counts: &[TermCounts],
     first: u32,
-    behind: u32,
+    end: u32,
     halvings: u32,
 ) -> Result<ListsBuilder<'a>, OutOfMemory>
-    requires order { first ≤ behind }
-    requires inside { behind ≤ length collection.now }
+    requires order { first ≤ end }
+    requires inside { end ≤ length collection.now }
     requires counts { counts.now ≡ all_counts collection.now }
-    ensures { IfOk result (λ run. run ≡ (collection.now, first, behind)) }
+    ensures { IfOk result (λ run. run ≡ (collection.now, first, end)) }
 {
     if halvings == 0 {
-        return run_of(alloc, collection, counts, first, behind);
+        return run_of(alloc, collection, counts, first, end);
     }
-    let middle = middle_of(counts, first, behind);
+    let middle = middle_of(counts, first, end);
     let front = move || -> Result<ListsBuilder<'_>, OutOfMemory>
         requires { IsSync R.row × (0 < halvings) × (first ≤ middle) × (middle ≤ length collection.now)
             × (counts.now ≡ all_counts collection.now) }
         ensures { IfOk result (λ run. run ≡ (collection.entry.now, first, middle)) }
     { run_by_threads(rt, alloc, collection, counts, first, middle, halvings - 1) };
     let back = move || -> Result<ListsBuilder<'_>, OutOfMemory>
-        requires { IsSync R.row × (0 < halvings) × (middle ≤ behind) × (behind ≤ length collection.now)
+        requires { IsSync R.row × (0 < halvings) × (middle ≤ end) × (end ≤ length collection.now)
             × (counts.now ≡ all_counts collection.now) }
-        ensures { IfOk result (λ run. run ≡ (collection.entry.now, middle, behind)) }
-    { run_by_threads(rt, alloc, collection, counts, middle, behind, halvings - 1) };
+        ensures { IfOk result (λ run. run ≡ (collection.entry.now, middle, end)) }
+    { run_by_threads(rt, alloc, collection, counts, middle, end, halvings - 1) };
     let (front, back) = join(rt, front, back);
     Ok(front?.join(back?)?)
 }

@@ -108,12 +108,12 @@ pub(crate) fn read_texts(
         let Some(size) = number(rest, 0, most) else {
             return Ok(Err(at));
         };
-        let Some((text, behind)) = text_of(&rest[4..], size as usize) else {
+        let Some((text, following)) = text_of(&rest[4..], size as usize) else {
             return Ok(Err(at + 4));
         };
         texts.push(text)?;
         all += size;
-        rest = behind;
+        rest = following;
     }
     Ok(Ok((format, texts)))
 }

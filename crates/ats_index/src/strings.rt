@@ -2,7 +2,7 @@
 
 ghost use Rattle.std.specs.Prelude.{◌≡◌, ◌↔◌, ◌^◌, ◌≤◌, [], length, map, All, IsTrue};
 ghost use Rattle.ats_tree.specs.OwnShown.{IsOwnShown};
-ghost use Rattle.ats_tree.specs.declared.hashed.Tree.TheVariants.{Header as HeaderTree, Documents as DocumentsTree, Terms as TermsTree};
+ghost use Rattle.ats_tree.specs.declared.places.Tree.TheVariants.{Header as HeaderTree, Documents as DocumentsTree, Terms as TermsTree};
 ghost use Rattle.ats_lists.specs.Formats.{list_string};
 ghost use Rattle.ats_postings.specs.Lists.{list};
 ghost use Rattle.ats_commit.specs.OwnShown.{IsOwnListShown};
@@ -16,7 +16,7 @@ use ats_commit::{DocLeaves, OwnStrings, string_of_header};
 use ats_hash::{Hash32, Steps};
 use ats_lists::Format;
 use ats_terms::Query;
-use ats_tree::{HashedString, Place, ShownTree, Tree};
+use ats_tree::{HashedString, PartialTree, Place, Tree};
 
 impl<H: Hash32> Index<H> {
     /// The string at a place in the archive's own trees. There is none if the turns leave the tree, if no text has the
@@ -91,7 +91,7 @@ impl<H: Hash32> Index<H> {
     }
 
     // Whether what is shown is of a term's list.
-    fn has_entries<S: ShownTree>(
+    fn has_entries<S: PartialTree>(
         &self,
         term: &[u8],
         n: u32,
@@ -111,7 +111,7 @@ impl<H: Hash32> Index<H> {
     }
 
     // Whether what is shown is of the tree of all documents.
-    fn has_documents<S: ShownTree>(&self, n: u32, shown: &mut S, steps: &mut Steps) -> bool
+    fn has_documents<S: PartialTree>(&self, n: u32, shown: &mut S, steps: &mut Steps) -> bool
         requires short { All (λ s. length s.1 ≤ 127) (S.shown shown.old) }
         requires space { steps.old ≤ 2 ^ 63 }
         ensures { IsTrue result ↔ IsOwnShown H.hash (documents_of H.hash self.now.texts) n
@@ -125,7 +125,7 @@ impl<H: Hash32> Index<H> {
     }
 
     // Whether what is shown is of the tree of a document's terms.
-    fn has_terms<S: ShownTree>(&self, doc: u32, n: u32, shown: &mut S, steps: &mut Steps) -> bool
+    fn has_terms<S: PartialTree>(&self, doc: u32, n: u32, shown: &mut S, steps: &mut Steps) -> bool
         requires short { All (λ s. length s.1 ≤ 127) (S.shown shown.old) }
         requires space { steps.old ≤ 2 ^ 63 }
         ensures { IsTrue result ↔ IsOwnShown H.hash (own_leaves H.hash self.now [] (TermsTree doc)) n
@@ -148,7 +148,7 @@ impl<H: Hash32> OwnStrings<H> for Index<H> {
         Index::<H>::hashed_string(self, place, query)
     }
 
-    fn has_shown<S: ShownTree>(
+    fn has_shown<S: PartialTree>(
         &self,
         format: Format,
         tree: Tree,

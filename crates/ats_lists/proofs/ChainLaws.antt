@@ -209,8 +209,8 @@ elided-taken H ds k j some within less =
           in ap (λ n. take n (chain_elided H ds k)) none ∙ sym (no_digest _ (count ∙ none))
       | inr end ↦
           let last : blocks_in k - 1 ≡ j = omega arith
-          in let Taken : ℕ → Type 0 = λ i. take (need (first_tree ds k i)) (chain_elided H ds k) ≡ elided_of H (first_tree ds k i) (tree_of (block ds i))
-          in subst Taken last
+          in let IsFront : ℕ → Type 0 = λ i. take (need (first_tree ds k i)) (chain_elided H ds k) ≡ elided_of H (first_tree ds k i) (tree_of (block ds i))
+          in subst IsFront last
           (take_at (last_elided H ds k) (after_last H ds k) (need (first_tree ds k (blocks_in k - 1))) (last-count H ds k some within)
           ∙ last-elided H ds k some within)
     ]

@@ -66,9 +66,9 @@ weight_before pairs i d rises inside = no_weight (get_or pairs i d).0 (take i pa
     let below : k < i = omega (arith, length-take i pairs) in
     rw (get_or-take i pairs k e below) (apart_at pairs k i e d rises (omega arith) inside (λ same. absurd (omega arith))))
 
-weight_behind : (pairs : List (List ℕ × ℕ)) (i : ℕ) (d : List ℕ × ℕ) → Rises pairs → i < length pairs
+weight_after : (pairs : List (List ℕ × ℕ)) (i : ℕ) (d : List ℕ × ℕ) → Rises pairs → i < length pairs
     → weight_of (get_or pairs i d).0 (drop (i + 1) pairs) ≡ 0
-weight_behind pairs i d rises inside = no_weight (get_or pairs i d).0 (drop (i + 1) pairs) (λ k e within.
+weight_after pairs i d rises inside = no_weight (get_or pairs i d).0 (drop (i + 1) pairs) (λ k e within.
     let above : (i + 1) + k < length pairs = omega (arith, length-drop (i + 1) pairs) in
     rw (get_or-drop (i + 1) pairs k e) (apart_at pairs ((i + 1) + k) i e d rises above inside (λ same. absurd (omega arith))))
 
@@ -80,7 +80,7 @@ weight_at pairs i d rises inside =
     let f : List ℕ × ℕ → ℕ = λ p. cond (bytes_eq term p.0) p.1 0 in
     let same : bytes_eq term term ≡ true = nat_list_eq_equiv.refl term in
     let here : cond (bytes_eq term term) (get_or pairs i d).1 0 ≡ (get_or pairs i d).1 = rw same refl in
-    omega (arith, sum_by-take-drop f pairs (i + 1), sum_by_more f pairs i d inside, here, weight_before pairs i d rises inside, weight_behind pairs i d rises inside)
+    omega (arith, sum_by-take-drop f pairs (i + 1), sum_by_more f pairs i d inside, here, weight_before pairs i d rises inside, weight_after pairs i d rises inside)
 
 -- a term of a document occurs in it at most as often as the document has terms
 pub pair_within : (all : List (List ℕ)) (pairs : List (List ℕ × ℕ)) (i : ℕ) (d : List ℕ × ℕ) → Counts all pairs → i < length pairs
@@ -164,11 +164,11 @@ nothing_yet first texts gathered empty = record {
 }
 
 -- two runs, the second one after the first
-pub runs_joined : (first middle behind : ℕ) (texts : List (List ℕ)) (one two : Pairs) → first ≤ middle → middle ≤ behind
-    → HasRun first middle texts one → HasRun middle behind texts two → HasRun first behind texts (one ++ two)
-runs_joined first middle behind texts one two low high front back = record {
+pub runs_joined : (first middle end : ℕ) (texts : List (List ℕ)) (one two : Pairs) → first ≤ middle → middle ≤ end
+    → HasRun first middle texts one → HasRun middle end texts two → HasRun first end texts (one ++ two)
+runs_joined first middle end texts one two low high front back = record {
   entries = λ term.
       entries_append term one two ∙ ap₂ (λ (xs ys : List Entry). xs ++ ys) (front.entries term) (back.entries term)
-      ∙ run_joined first middle behind texts term low high;
+      ∙ run_joined first middle end texts term low high;
   terms = All-append (λ (pair : List ℕ × Entry). IsTerm pair.0) one two front.terms back.terms;
 }

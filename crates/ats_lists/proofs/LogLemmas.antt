@@ -47,7 +47,7 @@ used_before terms new term n (inr (last, longer)) m inside =
     let size : length new ≡ length terms + 1 = ap length longer ∙ length-append terms (term ∷ []) in
     elim (cases_lt m (length terms)) [
       | inl before ↦ inl before
-      | inr behind ↦ inr (omega (arith, size, last))
+      | inr past ↦ inr (omega (arith, size, last))
     ]
 
 module _ (terms new : List (List ℕ)) (term : List ℕ) (n : ℕ) (grows : Grows terms new term n) (inside : n < length new)

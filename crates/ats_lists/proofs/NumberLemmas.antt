@@ -127,8 +127,8 @@ rises_push terms term rises above other =
     let own : get_or (terms ++ term ∷ []) k [] ≡ get_or terms k [] = get_or_append_left terms (term ∷ []) [] k (omega (arith, inside, size)) in
     elim (cases_lt (k + 1) (length terms)) [
       | inl within ↦ rw (own, get_or_append_left terms (term ∷ []) [] (k + 1) within) (Less-from_sorted byte_cmp terms k (k + 1) [] rises (omega arith) within)
-      | inr behind ↦
-          let at : k + 1 ≡ length terms = omega (arith, behind, inside, size) in
+      | inr past ↦
+          let at : k + 1 ≡ length terms = omega (arith, past, inside, size) in
           let last : length terms - 1 ≡ k = omega (arith, at) in
           let before : List ℕ = get_or terms k [] in
           let differ : before ≢ term = rw (← last) (other (omega (arith, at))) in

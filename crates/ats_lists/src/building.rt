@@ -25,7 +25,7 @@ pub struct ListsBuilder<'a> {
     collection: &'a Collection,
     gathered: Gathered,
     first: u32,
-    behind: u32,
+    end: u32,
 }
 
 impl<'a> Model for ListsBuilder<'a> {
@@ -34,10 +34,10 @@ impl<'a> Model for ListsBuilder<'a> {
 
     ghost Value = { List (List ℕ) × ℕ × ℕ };
 
-    ghost view = { λ b. (b.collection.now, b.first, b.behind) };
+    ghost view = { λ b. (b.collection.now, b.first, b.end) };
 
-    ghost invariant = { λ b. (b.first ≤ b.behind) × (b.behind ≤ 65536)
-        × HasRun b.first b.behind b.collection.now b.gathered };
+    ghost invariant = { λ b. (b.first ≤ b.end) × (b.end ≤ 65536)
+        × HasRun b.first b.end b.collection.now b.gathered };
 }
 
 impl<'a> ListsBuilder<'a> {
@@ -60,7 +60,7 @@ impl<'a> ListsBuilder<'a> {
             collection,
             gathered: Gathered::new(alloc),
             first,
-            behind: first,
+            end: first,
         }
     }
 
@@ -75,16 +75,16 @@ impl<'a> ListsBuilder<'a> {
             collection,
             gathered,
             first,
-            behind,
+            end,
         } = self;
         let few = gathered.with_few_numbers(alloc)?;
-        let gathered = few.add_document(collection, behind, counts)?;
+        let gathered = few.add_document(collection, end, counts)?;
         Ok(ListsBuilder {
             alloc,
             collection,
             gathered,
             first,
-            behind: behind + 1,
+            end: end + 1,
         })
     }
 
@@ -99,14 +99,14 @@ impl<'a> ListsBuilder<'a> {
             collection,
             gathered,
             first,
-            behind: _,
+            end: _,
         } = self;
         let ListsBuilder {
             alloc: _,
             collection: _,
             gathered: more,
             first: _,
-            behind,
+            end,
         } = next;
         let gathered = gathered.join(alloc, more)?;
         Ok(ListsBuilder {
@@ -114,7 +114,7 @@ impl<'a> ListsBuilder<'a> {
             collection,
             gathered,
             first,
-            behind,
+            end,
         })
     }
 
@@ -130,7 +130,7 @@ impl<'a> ListsBuilder<'a> {
             collection,
             gathered,
             first: _,
-            behind: _,
+            end: _,
         } = self;
         Ok(Lists::new(gathered.sorted(alloc, collection)?))
     }

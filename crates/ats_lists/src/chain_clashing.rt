@@ -72,7 +72,7 @@ pub fn chain_first_clash<'a, H: Hash32, R: Revealed<'a>, O: OwnList>(
     ensures cost { steps.new ≤ steps.old + 5 * f }
 {
     // Digests have 32 bytes.
-    let _first = revealed.position();
+    let _facts = revealed.position();
     let blocks = k.div_ceil(BLOCK);
     let mut all = [[0; 32]; BLOCKS];
     let roots = &mut all[..blocks as usize];

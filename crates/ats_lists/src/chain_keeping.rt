@@ -19,7 +19,7 @@ use crate::memory::OutOfMemory;
 use ats_hash::{Hash32, HashKind, Steps};
 use ats_postings::Entry;
 use ats_tree::{
-    Digests, HashedString, Leaves, ShownTree, begins_with_elided, elide_kept, keep_part,
+    Digests, HashedString, Leaves, PartialTree, begins_with_elided, elide_kept, keep_part,
     string_of_part,
 };
 use std::alloc::Global;
@@ -99,7 +99,7 @@ impl Chain {
 
     /// Whether the digests left are those that the first `k` entries need, as `elided` appends them. It only compares: nothing
     /// is hashed, and no memory is taken.
-    pub fn has_digests<S: ShownTree>(&self, k: u32, shown: &mut S, steps: &mut Steps) -> bool
+    pub fn has_digests<S: PartialTree>(&self, k: u32, shown: &mut S, steps: &mut Steps) -> bool
         requires some { 1 ≤ k }
         requires within { k ≤ self.now.entries }
         requires theirs { All (λ d. length d ≡ 32) (S.digests shown.old) }
@@ -213,7 +213,7 @@ impl Chain {
 
     // Whether the digests left begin with those that the first `count` leaves of the tree of block `j` need. If they do,
     // they are taken.
-    fn begins_with_nodes<S: ShownTree>(
+    fn begins_with_nodes<S: PartialTree>(
         &self,
         j: u32,
         count: u32,
@@ -238,7 +238,7 @@ impl Chain {
     }
 
     // Whether the digests left are that of block `j`, or none if there is no such block.
-    fn is_link<S: ShownTree>(&self, j: u32, shown: &mut S, steps: &mut Steps) -> bool
+    fn is_link<S: PartialTree>(&self, j: u32, shown: &mut S, steps: &mut Steps) -> bool
         requires inside { j ≤ blocks_in self.now.entries }
         requires theirs { All (λ d. length d ≡ 32) (S.digests shown.old) }
         requires space { steps.old + 2 < 2 ^ 64 }

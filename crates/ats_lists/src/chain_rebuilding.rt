@@ -83,7 +83,7 @@ fn rebuild_front<'a, H: Hash32, R: Revealed<'a>>(
     ensures by_places { steps.new ≤ steps.old + 3 * f + 1 }
 {
     // Digests have 32 bytes.
-    let _first = revealed.position();
+    let _facts = revealed.position();
     let follows = BLOCK as usize * roots.len() < f as usize;
     rebuild_blocks::<H, R>(f, roots, revealed, steps)?;
     let next = pass_next::<R>(follows, revealed, steps)?;

@@ -196,8 +196,8 @@ impl Gathered {
     }
 
     /// This run and then the other one. If memory runs out, both are dropped.
-    pub(crate) fn join(self, alloc: Global, behind: Self) -> Result<Self, OutOfMemory>
-        ensures { IfOk result (λ joined. joined ≡ self ++ behind) }
+    pub(crate) fn join(self, alloc: Global, next: Self) -> Result<Self, OutOfMemory>
+        ensures { IfOk result (λ joined. joined ≡ self ++ next) }
     {
         let Gathered {
             mut numbering,
@@ -206,7 +206,7 @@ impl Gathered {
         let Gathered {
             numbering: others,
             log: more,
-        } = behind;
+        } = next;
         let numbers = renumber(alloc, &mut numbering, &others)?;
         append(&mut log, &numbers, &more)?;
         Ok(Gathered { numbering, log })

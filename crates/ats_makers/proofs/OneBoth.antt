@@ -6,8 +6,8 @@ use Rattle.ats_proof.specs.declared.record.Algorithm.TheVariants.{Tra}
 use Rattle.ats_proof.specs.Value.{Proof, fields_of}
 use Rattle.ats_honest.specs.Honest.{length_of}
 use Rattle.ats_honest.proofs.Public.{one_cut_shown}
-use Rattle.ats_both.specs.Made.{both_cut, IsBothMade, IsBothProof, IsBothFault}
-use Rattle.ats_both.specs.declared.making.BothFault.TheVariants.{TooLong}
+use Rattle.ats_all_proof.specs.Made.{both_cut, IsBothMade, IsBothProof, IsBothFault}
+use Rattle.ats_all_proof.specs.declared.making.BothFault.TheVariants.{TooLong}
 use Rattle.ats_plan.specs.Inner.Sound.{IsExact}
 use Rattle.ats_console.specs.Stops.{line_of_long_proof}
 use Rattle.ats_console.specs.declared.stops.Stop.{Stop}

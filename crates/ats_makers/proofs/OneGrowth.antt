@@ -2,8 +2,8 @@
 use Rattle.std.proofs.Common.{◌≡◌, ◌∙◌, ◌<◌, ℕ, List, sym, ap, inl, inr}
 use Rattle.std.proofs.lemmas.Bool.{cases_order}
 use Rattle.ats_commit.specs.Archive.{Archive}
-use Rattle.ats_growth.specs.Honest.{IsFirstApart}
-use Rattle.ats_growth.proofs.Public.{not_prefix}
+use Rattle.ats_growth_proof.specs.Honest.{IsFirstApart}
+use Rattle.ats_growth_proof.proofs.Public.{not_prefix}
 use Rattle.ats_plan.specs.Inner.Sound.{IsExact}
 use Rattle.ats_console.specs.declared.stops.Stop.TheVariants.{Input}
 use Rattle.ats_makers.specs.Lines.{line_of_differing}

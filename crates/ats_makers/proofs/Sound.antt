@@ -1,9 +1,9 @@
 -- The plan of each command goes one way at most, and stops none for its words.
 use Rattle.std.proofs.Common.{◌∙◌, ℕ, List, sym}
 use Rattle.ats_commit.specs.Archive.{Archive}
-use Rattle.ats_inclusion.proofs.Public.{one_join}
-use Rattle.ats_growth.specs.Honest.{honest}
-use Rattle.ats_consistency.proofs.Public.{one_join as one_growth_join}
+use Rattle.ats_text_check.proofs.Public.{one_join}
+use Rattle.ats_growth_proof.specs.Honest.{honest}
+use Rattle.ats_growth_check.proofs.Public.{one_join as one_growth_join}
 use Rattle.ats_plan.specs.Inner.Sound.{IsExact}
 use Rattle.ats_console.specs.Words.{MakerCommand, Rank, Build, Migrate, Root, Prove, Give, ProveBoth, Grow}
 use Rattle.ats_console.proofs.Public.{Sound, ends, stores, tries, makes, not_input, query_sound, ranking_sound, collection_sound, index_sound, one_made, length_exact}

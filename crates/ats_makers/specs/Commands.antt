@@ -8,14 +8,14 @@ use Rattle.ats_lists.specs.declared.format.Format.TheVariants.{Two}
 use Rattle.ats_commit.specs.Archive.{archive_of, Archive}
 use Rattle.ats_commit.specs.Root.{root_of}
 use Rattle.ats_index.specs.Spelling.{IsSpelling}
-use Rattle.ats_inclusion.specs.Value.{IsTextProof}
-use Rattle.ats_consistency.specs.Headline.{IsPrefix}
-use Rattle.ats_consistency.specs.Value.{IsGrowth}
+use Rattle.ats_text_check.specs.Value.{IsTextProof}
+use Rattle.ats_growth_check.specs.Headline.{IsPrefix}
+use Rattle.ats_growth_check.specs.Value.{IsGrowth}
 use Rattle.ats_honest.specs.Honest.{IsProved}
-use Rattle.ats_fetch.specs.Given.{given_text}
-use Rattle.ats_both.specs.Made.{IsBothProof, IsBothFault}
-use Rattle.ats_both.specs.declared.making.BothFault.TheVariants.{TooLong}
-use Rattle.ats_growth.specs.Honest.{honest, IsFirstApart}
+use Rattle.ats_text_proof.specs.Given.{given_text}
+use Rattle.ats_all_proof.specs.Made.{IsBothProof, IsBothFault}
+use Rattle.ats_all_proof.specs.declared.making.BothFault.TheVariants.{TooLong}
+use Rattle.ats_growth_proof.specs.Honest.{honest, IsFirstApart}
 use Rattle.ats_plan.specs.Files.{Files}
 use Rattle.ats_plan.specs.Plan.{Plan, Finishes, Makes, Stores, Tries}
 use Rattle.ats_console.specs.Making.{IsMade, IsNotTooLong, IsUnmade}

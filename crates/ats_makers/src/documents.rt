@@ -8,8 +8,8 @@ ghost use Rattle.ats_makers.specs.Commands.{AreBothBytes, IsBothUnmade, prove_bo
 ghost use Rattle.ats_makers.specs.Inner.Stops.{OrMemory};
 
 use crate::storing::store_sized;
+use ats_all_proof::BothFault;
 use ats_base::{Bytes, Shelf};
-use ats_both::BothFault;
 use ats_console::{Stop, proof_too_long, read};
 use ats_hash::Hash32;
 use ats_index::Index;
@@ -22,7 +22,7 @@ fn both_to_bytes<H: Hash32>(alloc: Global, index: Index<H>, query: &Query) -> Re
     ensures proof { IfOk result (AreBothBytes H.hash index query.now) }
     ensures stop { IfErr result (OrMemory (IsBothUnmade H.hash index query.now)) }
 {
-    let made = ats_both::prove_both::<H>(alloc, &index, query);
+    let made = ats_all_proof::prove_both::<H>(alloc, &index, query);
     drop(index);
     match made {
         Ok(bytes) => Ok(bytes),

@@ -1,8 +1,8 @@
 //! `grow`: the bytes that show that nothing was withdrawn.
 
 ghost use Rattle.std.specs.Prelude.{◌≡◌, IfOk, IfErr};
-ghost use Rattle.ats_growth.specs.Honest.{honest};
-ghost use Rattle.ats_consistency.specs.Value.{IsGrowth};
+ghost use Rattle.ats_growth_proof.specs.Honest.{honest};
+ghost use Rattle.ats_growth_check.specs.Value.{IsGrowth};
 ghost use Rattle.ats_plan.specs.Runs.{IsDone, IsStopped};
 ghost use Rattle.ats_console.specs.declared.stops.Stop.TheVariants.{Shelf as AtShelf, Memory, Input};
 ghost use Rattle.ats_makers.specs.Lines.{line_of_differing};
@@ -12,7 +12,7 @@ ghost use Rattle.ats_makers.specs.Inner.Stops.{OrMemory};
 use crate::storing::store_sized;
 use ats_base::{Bytes, Shelf};
 use ats_console::{Stop, input_stop, read};
-use ats_growth::GrowFault;
+use ats_growth_proof::GrowFault;
 use ats_hash::Hash32;
 use ats_index::Index;
 use ats_refusal::Phrase;
@@ -32,7 +32,7 @@ fn grow_to_bytes<H: Hash32>(alloc: Global, older: Index<H>, newer: Index<H>) -> 
     ensures file { IfOk result (λ bytes. IsGrowth bytes (honest H.hash older newer)) }
     ensures stop { IfErr result (OrMemory (Withdraws older newer)) }
 {
-    let made = ats_growth::grow::<H>(alloc, &older, &newer);
+    let made = ats_growth_proof::grow::<H>(alloc, &older, &newer);
     drop(older);
     drop(newer);
     match made {

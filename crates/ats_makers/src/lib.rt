@@ -6,7 +6,7 @@
 //! query, and `grow` what shows that nothing was withdrawn between two indexes.
 //!
 //! The room stands on `ats_plan` and `ats_console` for what a command is and reads, on `ats_index`, `ats_prover`,
-//! `ats_fetch`, `ats_both` and `ats_growth` for what it makes, and on no check. [`answer`] comes to the text that the plan
+//! `ats_text_proof`, `ats_all_proof` and `ats_growth_proof` for what it makes, and on no check. [`answer`] comes to the text that the plan
 //! of a command allows (`specs/Commands`), or stops as its plan stops. How a command makes its answer may change freely; the
 //! order in which its inputs are tried may not.
 //!

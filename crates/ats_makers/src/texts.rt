@@ -1,8 +1,8 @@
 //! `give`: the bytes that give the text of a document.
 
 ghost use Rattle.std.specs.Prelude.{◌≡◌, IfOk, IfErr};
-ghost use Rattle.ats_fetch.specs.Given.{given_text};
-ghost use Rattle.ats_inclusion.specs.Value.{IsTextProof};
+ghost use Rattle.ats_text_proof.specs.Given.{given_text};
+ghost use Rattle.ats_text_check.specs.Value.{IsTextProof};
 ghost use Rattle.ats_plan.specs.Runs.{IsDone, IsStopped};
 ghost use Rattle.ats_console.specs.declared.stops.Stop.TheVariants.{Shelf as AtShelf, Memory, Input};
 ghost use Rattle.ats_makers.specs.Lines.{line_of_document};
@@ -12,10 +12,10 @@ ghost use Rattle.ats_makers.specs.Inner.Stops.{OrMemory};
 use crate::storing::store_sized;
 use ats_base::{Bytes, Shelf};
 use ats_console::{Stop, input_stop, read};
-use ats_fetch::give_text;
 use ats_hash::Hash32;
 use ats_index::Index;
 use ats_refusal::Phrase;
+use ats_text_proof::give_text;
 use std::alloc::Global;
 use std::thread::Threads;
 

@@ -2,7 +2,7 @@
 use Rattle.std.specs.Prelude.{◌≡◌, ◌≤◌, ◌+◌, ◌*◌, ◌++◌, ◌∷◌, ℕ, Bool, true, List, [], Option, Some, None, IsSome, unwrap_or, MatchOption, Result, Ok, Err}
 use Rattle.ats_base.specs.Outside.{Ask, ReadsBytes}
 use Rattle.ats_base.specs.Links.{Traffic, Calling, Opening}
-use Rattle.ats_base.specs.declared.outside.Deed.TheVariants.{Read}
+use Rattle.ats_base.specs.declared.outside.FileCall.TheVariants.{Read}
 
 -- how many bytes a call moved
 abbrev pub count_moved : {E : Type 0} → Result ℕ E → ℕ
@@ -36,7 +36,7 @@ at_place place (Some reading) = Some (record reading { place = place })
 -- only a read of this open file was begun, from this place on
 abbrev pub IsReadOf : Option Reading → ℕ → List Ask → Type 0
 IsReadOf None place asks = ⊥
-IsReadOf (Some reading) place asks = asks ≡ (record { name = reading.name; deed = Read place }) ∷ []
+IsReadOf (Some reading) place asks = asks ≡ (record { name = reading.name; call = Read place }) ∷ []
 
 -- the open file has the name and the bytes that it had, if it reported them
 abbrev pub KeepsBytes : Option Reading → Option Reading → Type 0

@@ -7,7 +7,7 @@ ghost use Rattle.std.specs.IoError.{error_kind};
 ghost use Rattle.std.specs.declared.io.ErrorKind.{ErrorKind};
 ghost use Rattle.ats_base.specs.Outside.{Ask, Asked, Calls, Puts, Adds};
 ghost use Rattle.ats_base.specs.Links.{Opening, Traffic, Exchanged, IsAtEnd, IsCalledAt, HasAcceptedOut, MayNoteListen, accepted_back, accepting_out, counting_accept, noting_listen};
-ghost use Rattle.ats_base.specs.declared.outside.Deed.TheVariants.{Read, Start, Append};
+ghost use Rattle.ats_base.specs.declared.outside.FileCall.TheVariants.{Read, Start, Append};
 ghost use Rattle.ats_outside.specs.Calls.{Reading, count_moved, HasBytesOf, IsNamed, IsAt, IsReadOf, at_place, KeepsBytes, ReadsOpen, IsUnused, WaitsAtMost, connecting_out};
 
 use crate::counts::Counts;

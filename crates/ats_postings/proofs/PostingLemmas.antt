@@ -148,14 +148,14 @@ run_more first doc texts term up =
     let size : (doc + 1) - first ≡ (doc - first) + 1 = omega arith in
     ap (λ n. postings_of_run first n texts term) size ∙ postings_more first (doc - first) doc texts term (omega arith)
 
-pub run_joined : (first middle behind : ℕ) (texts : List (List ℕ)) (term : List ℕ) → first ≤ middle → middle ≤ behind
-    → postings_of_run first (middle - first) texts term ++ postings_of_run middle (behind - middle) texts term
-    ≡ postings_of_run first (behind - first) texts term
-run_joined first middle behind texts term low high =
+pub run_joined : (first middle end : ℕ) (texts : List (List ℕ)) (term : List ℕ) → first ≤ middle → middle ≤ end
+    → postings_of_run first (middle - first) texts term ++ postings_of_run middle (end - middle) texts term
+    ≡ postings_of_run first (end - first) texts term
+run_joined first middle end texts term low high =
     let start : middle ≡ first + (middle - first) = omega arith in
-    let size : (middle - first) + (behind - middle) ≡ behind - first = omega arith in
-    ap (λ k. postings_of_run first (middle - first) texts term ++ postings_of_run k (behind - middle) texts term) start
-    ∙ postings_joined first (middle - first) (behind - middle) texts term
+    let size : (middle - first) + (end - middle) ≡ end - first = omega arith in
+    ap (λ k. postings_of_run first (middle - first) texts term ++ postings_of_run k (end - middle) texts term) start
+    ∙ postings_joined first (middle - first) (end - middle) texts term
     ∙ ap (λ n. postings_of_run first n texts term) size
 
 pub run_of_all : (texts : List (List ℕ)) (term : List ℕ) → postings_of_run 0 (length texts - 0) texts term ≡ postings texts term

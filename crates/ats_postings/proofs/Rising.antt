@@ -91,7 +91,7 @@ pub one_place : {K : Type 0} {R : K → K → Ordering} → IsTotalOrder R → (
 one_place {K} {R} total xs i j d rises first second same = elim (cases_lt i j) [
   | inl before ↦ absurd (clash i j before second same)
   | inr le ↦ elim (cases_lt j i) [
-    | inl behind ↦ absurd (clash j i behind first (sym same))
+    | inl past ↦ absurd (clash j i past first (sym same))
     | inr ge ↦ omega (arith, le, ge)
   ]
 ]

@@ -11,22 +11,22 @@ use Rattle.ats_proof.specs.Reading.{term_length_in, leaf_size, entry_in, term_in
 use Rattle.ats_proof.specs.Runs.{leaf_in, leaves_in}
 use Rattle.ats_proof.proofs.Taking.{parts_more, increasing-tail}
 
-pub behind_term : (bytes : List ℕ) → drop (1 + term_length_in bytes) (drop 4 bytes) ≡ drop (5 + term_length_in bytes) bytes
-behind_term bytes = let e : 4 + (1 + term_length_in bytes) ≡ 5 + term_length_in bytes = omega arith in
+pub past_term : (bytes : List ℕ) → drop (1 + term_length_in bytes) (drop 4 bytes) ≡ drop (5 + term_length_in bytes) bytes
+past_term bytes = let e : 4 + (1 + term_length_in bytes) ≡ 5 + term_length_in bytes = omega arith in
     drop-drop (1 + term_length_in bytes) 4 bytes ∙ ap (λ (n : ℕ). drop n bytes) e
 
-pub both_parts : (behind : ℕ) (bytes : List ℕ) → take (1 + term_length_in bytes) (drop 4 bytes) ++ take behind (drop (5 + term_length_in bytes) bytes) ≡ (leaf_in behind bytes).1
-both_parts behind bytes =
-    ap (λ (xs : List ℕ). take (1 + term_length_in bytes) (drop 4 bytes) ++ take behind xs) (sym (behind_term bytes)) ∙ sym (take-add (1 + term_length_in bytes) behind (drop 4 bytes))
+pub both_parts : (after_term : ℕ) (bytes : List ℕ) → take (1 + term_length_in bytes) (drop 4 bytes) ++ take after_term (drop (5 + term_length_in bytes) bytes) ≡ (leaf_in after_term bytes).1
+both_parts after_term bytes =
+    ap (λ (xs : List ℕ). take (1 + term_length_in bytes) (drop 4 bytes) ++ take after_term xs) (sym (past_term bytes)) ∙ sym (take-add (1 + term_length_in bytes) after_term (drop 4 bytes))
 
-pub rest_rises : (behind n : ℕ) (bytes : List ℕ) → 0 < n → IsStrictlyIncreasing (positions_of (leaves_in behind n bytes))
-    → IsStrictlyIncreasing (positions_of (leaves_in behind (n - 1) (drop (leaf_size behind bytes) bytes)))
-rest_rises behind n bytes some rises =
-    increasing-tail (leaf_in behind bytes).0 (positions_of (leaves_in behind (n - 1) (drop (leaf_size behind bytes) bytes)))
-    (subst (λ xs. IsStrictlyIncreasing (positions_of xs)) (parts_more (leaf_size behind) (leaf_in behind) n bytes some) rises)
+pub rest_rises : (after_term n : ℕ) (bytes : List ℕ) → 0 < n → IsStrictlyIncreasing (positions_of (leaves_in after_term n bytes))
+    → IsStrictlyIncreasing (positions_of (leaves_in after_term (n - 1) (drop (leaf_size after_term bytes) bytes)))
+rest_rises after_term n bytes some rises =
+    increasing-tail (leaf_in after_term bytes).0 (positions_of (leaves_in after_term (n - 1) (drop (leaf_size after_term bytes) bytes)))
+    (subst (λ xs. IsStrictlyIncreasing (positions_of xs)) (parts_more (leaf_size after_term) (leaf_in after_term) n bytes some) rises)
 
-pub rest_of_leaf : (behind : ℕ) (bytes : List ℕ) → drop behind (drop (1 + term_length_in bytes) (drop 4 bytes)) ≡ drop (leaf_size behind bytes) bytes
-rest_of_leaf behind bytes = ap (drop behind) (behind_term bytes) ∙ drop-drop behind (5 + term_length_in bytes) bytes
+pub rest_of_leaf : (after_term : ℕ) (bytes : List ℕ) → drop after_term (drop (1 + term_length_in bytes) (drop 4 bytes)) ≡ drop (leaf_size after_term bytes) bytes
+rest_of_leaf after_term bytes = ap (drop after_term) (past_term bytes) ∙ drop-drop after_term (5 + term_length_in bytes) bytes
 
 -- the entry of a leaf of the dictionary, from its two parts
 pub entry_of_parts : (bytes front back : List ℕ) → front ≡ take (1 + term_length_in bytes) (drop 4 bytes) → back ≡ take 36 (drop (5 + term_length_in bytes) bytes)

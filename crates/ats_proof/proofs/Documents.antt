@@ -28,10 +28,10 @@ pub rest_ids_rise : (n : ℕ) (ids : List ℕ) → 0 < n → IsStrictlyIncreasin
 rest_ids_rise n ids some rises = increasing-tail (number_in 4 ids) (parts_in id_size id_in (n - 1) (drop 4 ids)) (subst IsStrictlyIncreasing (parts_more id_size id_in n ids some) rises)
 
 -- parts that begin with their positions, as leaves
-module _ {X : Type 0} (behind : ℕ) (read : List ℕ → X) (position : X → ℕ) (begins : (bytes : List ℕ) → position (read bytes) ≡ number_in 4 bytes) where
-  pub leaf_positions : (n : ℕ) (bytes : List ℕ) → map position (parts_in (leaf_size behind) read n bytes) ≡ positions_of (leaves_in behind n bytes)
+module _ {X : Type 0} (after_term : ℕ) (read : List ℕ → X) (position : X → ℕ) (begins : (bytes : List ℕ) → position (read bytes) ≡ number_in 4 bytes) where
+  pub leaf_positions : (n : ℕ) (bytes : List ℕ) → map position (parts_in (leaf_size after_term) read n bytes) ≡ positions_of (leaves_in after_term n bytes)
   leaf_positions zero bytes = refl
-  leaf_positions (suc n) bytes = ap₂ (λ (x : ℕ) (xs : List ℕ). x ∷ xs) (begins bytes) (leaf_positions n (drop (leaf_size behind bytes) bytes))
+  leaf_positions (suc n) bytes = ap₂ (λ (x : ℕ) (xs : List ℕ). x ∷ xs) (begins bytes) (leaf_positions n (drop (leaf_size after_term bytes) bytes))
 
 -- the bytes after the digests of a terms section
 pub slots_start : (bytes digests slots : List ℕ) → digests ≡ drop (section_leaves_size bytes) bytes → slots ≡ drop (counted_size 2 digest_size digests) digests

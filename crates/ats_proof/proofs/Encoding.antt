@@ -21,7 +21,7 @@ use Rattle.ats_proof.specs.Runs.{leaf_in, leaves_in, shown_entry, shown_term, sh
 use Rattle.ats_proof.proofs.Numbers.{AreBytes}
 use Rattle.ats_proof.proofs.Standing.{small-drop}
 use Rattle.ats_proof.proofs.Taking.{part_at, parts_more}
-use Rattle.ats_proof.proofs.Cutting.{behind_term}
+use Rattle.ats_proof.proofs.Cutting.{past_term}
 use Rattle.ats_proof.proofs.Runs.{length-parts}
 
 number_2 : (bs : List ℕ) → length bs ≡ 2 → number bs ≡ from_be_bytes w16 bs
@@ -88,12 +88,12 @@ front_bytes bytes space =
     ∙ ap (λ (n : ℕ). n ∷ term) (sym size)
 
 -- the length, the term, and the bytes after it
-leaf_parts : (behind : ℕ) (bytes : List ℕ) → 5 + term_length_in bytes ≤ length bytes
-    → take (1 + term_length_in bytes + behind) (drop 4 bytes)
-    ≡ (length (take (term_length_in bytes) (drop 5 bytes)) ∷ take (term_length_in bytes) (drop 5 bytes)) ++ take behind (drop (5 + term_length_in bytes) bytes)
-leaf_parts behind bytes space =
-    take-add (1 + term_length_in bytes) behind (drop 4 bytes)
-    ∙ ap₂ (λ (xs ys : List ℕ). xs ++ take behind ys) (front_bytes bytes space) (behind_term bytes)
+leaf_parts : (after_term : ℕ) (bytes : List ℕ) → 5 + term_length_in bytes ≤ length bytes
+    → take (1 + term_length_in bytes + after_term) (drop 4 bytes)
+    ≡ (length (take (term_length_in bytes) (drop 5 bytes)) ∷ take (term_length_in bytes) (drop 5 bytes)) ++ take after_term (drop (5 + term_length_in bytes) bytes)
+leaf_parts after_term bytes space =
+    take-add (1 + term_length_in bytes) after_term (drop 4 bytes)
+    ∙ ap₂ (λ (xs ys : List ℕ). xs ++ take after_term ys) (front_bytes bytes space) (past_term bytes)
 
 pub entry_bytes : (bytes : List ℕ) → entry_size bytes ≤ length bytes → AreBytes bytes → leaf_in 36 bytes ≡ shown_entry (entry_in bytes)
 unfolding dict_leaf_bytes

@@ -26,18 +26,18 @@ module _ {S X : Type 0} (part : S → (S → Table) → Table) (size : List ℕ 
   has_run zero s last fields bytes is = nothing (last s) fields bytes is
   has_run (suc n) s last fields bytes is =
       let first = one s (λ t. runs part n t last) fields bytes is in
-      let behind = drop (size bytes) bytes in
-      let more = has_run n (next s (read bytes)) last first.after behind first.stands in
+      let following = drop (size bytes) bytes in
+      let more = has_run n (next s (read bytes)) last first.after following first.stands in
       both (spell (read bytes)) (size bytes) (runs part n (next s (read bytes)) last) fields bytes
-      (flat_map spell (parts_in size read n behind)) (total_size size n behind) (last (state_after next (next s (read bytes)) (parts_in size read n behind))) first more
+      (flat_map spell (parts_in size read n following)) (total_size size n following) (last (state_after next (next s (read bytes)) (parts_in size read n following))) first more
 
   -- a front, and a run after it
   pub then_run : {a : List (List ℕ)} {k : ℕ} (n : ℕ) (s : S) (last : S → Table) {fields : List (List ℕ)} {bytes : List ℕ} → HasFront a k (runs part n s last) fields bytes
       → HasFront (a ++ flat_map spell (parts_in size read n (drop k bytes))) (k + total_size size n (drop k bytes)) (last (state_after next s (parts_in size read n (drop k bytes)))) fields bytes
   then_run {a} {k} n s last {fields} {bytes} is =
-      let behind = drop k bytes in
-      both a k (runs part n s last) fields bytes (flat_map spell (parts_in size read n behind)) (total_size size n behind) (last (state_after next s (parts_in size read n behind)))
-      is (has_run n s last is.after behind is.stands)
+      let following = drop k bytes in
+      both a k (runs part n s last) fields bytes (flat_map spell (parts_in size read n following)) (total_size size n following) (last (state_after next s (parts_in size read n following)))
+      is (has_run n s last is.after following is.stands)
 
   -- a number of parts, and a run of as many
   pub has_counted : (width low high : ℕ) (kind : ShapeKind) (s : S) (last : ℕ → S → Table) (fields : List (List ℕ)) (bytes : List ℕ)
@@ -54,6 +54,6 @@ module _ {S X : Type 0} (part : S → (S → Table) → Table) (size : List ℕ 
       → HasFront (a ++ counted width spell (counted_in width size read (drop k bytes))) (k + counted_size width size (drop k bytes))
       (last (number_in width (drop k bytes)) (state_after next s (counted_in width size read (drop k bytes)))) fields bytes
   then_counted {a} {k} {width} {low} {high} {kind} s last {fields} {bytes} is =
-      let behind = drop k bytes in
-      both a k (Number width low high kind (λ n. runs part n s (last n))) fields bytes (counted width spell (counted_in width size read behind)) (counted_size width size behind)
-      (last (number_in width behind) (state_after next s (counted_in width size read behind))) is (has_counted width low high kind s last is.after behind is.stands)
+      let following = drop k bytes in
+      both a k (Number width low high kind (λ n. runs part n s (last n))) fields bytes (counted width spell (counted_in width size read following)) (counted_size width size following)
+      (last (number_in width following) (state_after next s (counted_in width size read following))) is (has_counted width low high kind s last is.after following is.stands)

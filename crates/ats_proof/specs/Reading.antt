@@ -19,9 +19,9 @@ digest_in bytes = take 32 bytes
 abbrev pub term_length_in : List ℕ → ℕ
 term_length_in bytes = number_in 1 (drop 4 bytes)
 
--- a leaf's position, length and term, and `behind` bytes after the term
+-- a leaf's position, length and term, and `after_term` bytes after the term
 abbrev pub leaf_size : ℕ → List ℕ → ℕ
-leaf_size behind bytes = 5 + term_length_in bytes + behind
+leaf_size after_term bytes = 5 + term_length_in bytes + after_term
 
 abbrev pub entry_size : List ℕ → ℕ
 entry_size bytes = leaf_size 36 bytes

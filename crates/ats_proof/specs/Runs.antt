@@ -38,12 +38,12 @@ shown_list at met (e ∷ es) = (at, leaf_bytes (named met e)) ∷ shown_list (at
 
 -- ---- positions
 
--- a leaf in a proof's bytes: its position, and the bytes from its length on, of which `behind` follow the term
+-- a leaf in a proof's bytes: its position, and the bytes from its length on, of which `after_term` follow the term
 abbrev pub leaf_in : ℕ → List ℕ → Shown
-leaf_in behind bytes = (number_in 4 bytes, take (1 + term_length_in bytes + behind) (drop 4 bytes))
+leaf_in after_term bytes = (number_in 4 bytes, take (1 + term_length_in bytes + after_term) (drop 4 bytes))
 
 abbrev pub leaves_in : ℕ → ℕ → List ℕ → List Shown
-leaves_in behind n bytes = parts_in (leaf_size behind) (leaf_in behind) n bytes
+leaves_in after_term n bytes = parts_in (leaf_size after_term) (leaf_in after_term) n bytes
 
 -- the positions of each section's leaves rise
 abbrev pub section_rises : TermsSection → Type 0

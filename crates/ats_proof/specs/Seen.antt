@@ -15,7 +15,7 @@ abbrev pub digests_of : DigestRun → List (List ℕ)
 digests_of run = parts_in digest_size digest_in run.left run.bytes.now
 
 abbrev pub leaves_of : LeafRun → List Shown
-leaves_of run = leaves_in run.behind run.left run.bytes.now
+leaves_of run = leaves_in run.after_term run.left run.bytes.now
 
 -- the length and the term of the first leaf in the bytes
 abbrev pub term_front : List ℕ → List ℕ

@@ -64,7 +64,7 @@ impl<'a> Revealed<'a> for ListCursor<'a> {
     ghost front_part = { λ s. id_front s.ids.now s.entries.now };
 
     fn position(&self) -> Option<u32> {
-        self.digests.are_sized();
+        self.digests.facts();
         if self.left == 0 {
             return None;
         }

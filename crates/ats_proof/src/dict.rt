@@ -15,7 +15,7 @@ use ats_tree::Revealed;
 pub struct DictView<'a> {
     pub(crate) leaves: LeafRun<'a>,
     pub(crate) digests: DigestRun<'a>,
-    pub ghost behind: { leaves.behind ≡ 36 },
+    pub ghost after_term: { leaves.after_term ≡ 36 },
 }
 
 impl<'a> DictView<'a> {
@@ -59,7 +59,7 @@ impl<'a> Revealed<'a> for DictView<'a> {
     ghost front_part = { λ s. term_front s.leaves.bytes.now };
 
     fn position(&self) -> Option<u32> {
-        self.digests.are_sized();
+        self.digests.facts();
         self.leaves.position()
     }
 

@@ -90,7 +90,7 @@ impl<'a> DigestRun<'a> {
     }
 
     /// Each digest has 32 bytes.
-    pub fn are_sized(&self)
+    pub fn facts(&self)
         ensures { All (λ d. length d ≡ 32) (digests_of self.now) }
     {}
 }

@@ -67,7 +67,7 @@ impl<'a> DocsView<'a> {
         let size = counted_leaves_size(2, self.sections);
         let leaves = LeafRun {
             left: u32::from(number_2(self.sections)),
-            behind: 2,
+            after_term: 2,
             bytes: self.sections.split_at(2).1,
         };
         let (digests, slots) = counted_digests_2(self.sections.split_at(size).1);

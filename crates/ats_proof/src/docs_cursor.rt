@@ -36,7 +36,7 @@ impl<'a> Revealed<'a> for DocsCursor<'a> {
     ghost front_part = { λ s. take 4 s.leaves.now };
 
     fn position(&self) -> Option<u32> {
-        self.digests.are_sized();
+        self.digests.facts();
         if self.left == 0 {
             return None;
         }

@@ -18,17 +18,17 @@ pub(crate) struct CutLeaf<'a> {
     pub(crate) rest: &'a [u8],
 }
 
-/// Cuts the first leaf, which has `behind` bytes after its term.
-pub(crate) fn cut_leaf(bytes: &[u8], behind: usize) -> CutLeaf<'_>
-    requires { leaf_size behind bytes.now ≤ length bytes.now }
+/// Cuts the first leaf, which has `after_term` bytes after its term.
+pub(crate) fn cut_leaf(bytes: &[u8], after_term: usize) -> CutLeaf<'_>
+    requires { leaf_size after_term bytes.now ≤ length bytes.now }
     ensures front { result.front.now ≡ take (1 + term_length_in bytes.now) (drop 4 bytes.now) }
-    ensures back { result.back.now ≡ take behind (drop (5 + term_length_in bytes.now) bytes.now) }
-    ensures rest { result.rest.now ≡ drop (leaf_size behind bytes.now) bytes.now }
+    ensures back { result.back.now ≡ take after_term (drop (5 + term_length_in bytes.now) bytes.now) }
+    ensures rest { result.rest.now ≡ drop (leaf_size after_term bytes.now) bytes.now }
 {
     let (_, leaf) = bytes.split_at(4);
     let length = usize::from(number_1(leaf));
     let (front, after) = leaf.split_at(1 + length);
-    let (back, rest) = after.split_at(behind);
+    let (back, rest) = after.split_at(after_term);
     CutLeaf { front, back, rest }
 }
 
@@ -37,10 +37,10 @@ pub(crate) fn cut_leaf(bytes: &[u8], behind: usize) -> CutLeaf<'_>
 pub(crate) struct LeafRun<'a> {
     pub(crate) left: u32,
     /// How many bytes each has after its term.
-    pub(crate) behind: usize,
+    pub(crate) after_term: usize,
     pub(crate) bytes: &'a [u8],
-    pub ghost fits: { total_size (leaf_size behind) left bytes.now ≤ length bytes.now },
-    pub ghost rises: { IsStrictlyIncreasing (positions_of (leaves_in behind left bytes.now)) },
+    pub ghost fits: { total_size (leaf_size after_term) left bytes.now ≤ length bytes.now },
+    pub ghost rises: { IsStrictlyIncreasing (positions_of (leaves_in after_term left bytes.now)) },
 }
 
 impl<'a> LeafRun<'a> {
@@ -51,12 +51,12 @@ impl<'a> LeafRun<'a> {
         requires { 0 < self.now.left }
         ensures front { result.front.now ≡ take (1 + term_length_in self.now.bytes.now) (drop 4 self.now.bytes.now) }
         ensures back { result.back.now
-            ≡ take self.now.behind (drop (5 + term_length_in self.now.bytes.now) self.now.bytes.now) }
-        ensures size { length result.back.now ≡ self.now.behind }
+            ≡ take self.now.after_term (drop (5 + term_length_in self.now.bytes.now) self.now.bytes.now) }
+        ensures size { length result.back.now ≡ self.now.after_term }
         ensures whole { result.front.now ++ result.back.now ≡ first_leaf (leaves_of self.now) }
-        ensures rest { result.rest.now ≡ drop (leaf_size self.now.behind self.now.bytes.now) self.now.bytes.now }
+        ensures rest { result.rest.now ≡ drop (leaf_size self.now.after_term self.now.bytes.now) self.now.bytes.now }
     {
-        cut_leaf(self.bytes, self.behind)
+        cut_leaf(self.bytes, self.after_term)
     }
 
     /// The position of the first leaf left.
@@ -76,8 +76,8 @@ impl<'a> LeafRun<'a> {
         requires space { steps.old + 1 < 2 ^ 64 }
         ensures passed { leaves_of self.new ≡ drop 1 (leaves_of self.old) }
         ensures count { self.new.left + 1 ≡ self.old.left }
-        ensures rest { self.new.bytes.now ≡ drop (leaf_size self.old.behind self.old.bytes.now) self.old.bytes.now }
-        ensures behind { self.new.behind ≡ self.old.behind }
+        ensures rest { self.new.bytes.now ≡ drop (leaf_size self.old.after_term self.old.bytes.now) self.old.bytes.now }
+        ensures after_term { self.new.after_term ≡ self.old.after_term }
         ensures cost { steps.new ≡ steps.old + 1 }
     {
         steps.tick();

@@ -9,28 +9,28 @@ use crate::bytes::{number_1, number_2, number_4};
 use crate::leaves::cut_leaf;
 use crate::record::ENTRY_BYTES;
 
-// How many bytes `count` leaves have, each with `behind` bytes after its term.
-fn leaves_size(count: u32, behind: usize, bytes: &[u8]) -> usize
-    requires { total_size (leaf_size behind) count bytes.now ≤ length bytes.now }
-    ensures { result ≡ total_size (leaf_size behind) count bytes.now }
+// How many bytes `count` leaves have, each with `after_term` bytes after its term.
+fn leaves_size(count: u32, after_term: usize, bytes: &[u8]) -> usize
+    requires { total_size (leaf_size after_term) count bytes.now ≤ length bytes.now }
+    ensures { result ≡ total_size (leaf_size after_term) count bytes.now }
 {
     let mut left = count;
     let mut rest = bytes;
     'leaves: while left > 0 {
-        rest = cut_leaf(rest, behind).rest;
+        rest = cut_leaf(rest, after_term).rest;
         left -= 1;
     }
     bytes.len() - rest.len()
 }
 
 /// How many bytes leaves and their number in two bytes have.
-pub(crate) fn counted_leaves_size(behind: usize, bytes: &[u8]) -> usize
-    requires { counted_size 2 (leaf_size behind) bytes.now ≤ length bytes.now }
-    ensures { result ≡ counted_size 2 (leaf_size behind) bytes.now }
+pub(crate) fn counted_leaves_size(after_term: usize, bytes: &[u8]) -> usize
+    requires { counted_size 2 (leaf_size after_term) bytes.now ≤ length bytes.now }
+    ensures { result ≡ counted_size 2 (leaf_size after_term) bytes.now }
 {
     let count = u32::from(number_2(bytes));
     let (_, leaves) = bytes.split_at(2);
-    2 + leaves_size(count, behind, leaves)
+    2 + leaves_size(count, after_term, leaves)
 }
 
 /// How many bytes digests and their number in two bytes have.

@@ -15,7 +15,7 @@ use ats_tree::Revealed;
 pub struct TermsView<'a> {
     pub(crate) leaves: LeafRun<'a>,
     pub(crate) digests: DigestRun<'a>,
-    pub ghost behind: { leaves.behind ≡ 2 },
+    pub ghost after_term: { leaves.after_term ≡ 2 },
 }
 
 impl<'a> TermsView<'a> {
@@ -59,7 +59,7 @@ impl<'a> Revealed<'a> for TermsView<'a> {
     ghost front_part = { λ s. term_front s.leaves.bytes.now };
 
     fn position(&self) -> Option<u32> {
-        self.digests.are_sized();
+        self.digests.facts();
         self.leaves.position()
     }
 

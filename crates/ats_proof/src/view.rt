@@ -48,7 +48,7 @@ impl<'a> ProofView<'a> {
     ghost use Rattle.ats_proof.specs.SeenLists.{lists_of};
 
     /// Facts that hold for every proof that was read.
-    pub fn is_spelled(&self)
+    pub fn facts(&self)
         ensures spelled { IsSpelled self.now }
         ensures range { IsInRange self.now }
     {
@@ -157,7 +157,7 @@ impl<'a> ProofView<'a> {
         let (digests, _) = counted_digests_2(self.bytes.split_at(self.begun.dict_digests).1);
         let leaves = LeafRun {
             left,
-            behind: DICT_BACK_BYTES,
+            after_term: DICT_BACK_BYTES,
             bytes: self.bytes.split_at(FRONT_BYTES + 2).1,
         };
         let dict = DictView { leaves, digests };

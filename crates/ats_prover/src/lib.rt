@@ -41,4 +41,4 @@ mod walking;
 pub use ats_proof::Algorithm;
 pub use fault::ProveFault;
 pub use found::entry_counts;
-pub use proving::{prove, prove_within, show_within};
+pub use proving::{prove, prove_cut_within, prove_within};

@@ -226,7 +226,7 @@ pub fn prove_within<H: HashKind>(
 
 /// The proof that shows a cut of the lists of a query's terms and has no answer, of at most `limit` bytes. The cut says
 /// for each term that some text has, in the query's order, how many entries of its list are shown.
-pub fn show_within<H: HashKind>(
+pub fn prove_cut_within<H: HashKind>(
     alloc: Global,
     index: &Index<H>,
     query: &Query,

@@ -5,10 +5,10 @@ use Rattle.ats_base.specs.Rules.{Group, AllHold}
 use Rattle.ats_refusal.specs.declared.catalog.CatalogRefusal.{CatalogRefusal}
 use Rattle.ats_proof.specs.Value.{Proof, IsProof}
 use Rattle.ats_proof.proofs.Public.{one_value}
-use Rattle.ats_shards.specs.Value.{Framed}
-use Rattle.ats_catalog.specs.Accepts.{AreRowsSettled, merged_rows, shard_rules}
-use Rattle.ats_catalog.specs.Bytes.{AreVerifiedRows}
-use Rattle.ats_catalog.specs.declared.row.CatalogRow.{CatalogRow}
+use Rattle.ats_catalog_bytes.specs.Value.{Framed}
+use Rattle.ats_catalog_check.specs.Accepts.{AreRowsSettled, merged_rows, shard_rules}
+use Rattle.ats_catalog_check.specs.Bytes.{AreVerifiedRows}
+use Rattle.ats_catalog_check.specs.declared.row.CatalogRow.{CatalogRow}
 
 -- if each element has one partner at most, a list has one list of partners at most
 one_zip : {A B : Type 0} (R : A → B → Type 0) → ((x : A) (a b : B) → R x a → R x b → a ≡ b)

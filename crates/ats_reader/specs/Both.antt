@@ -5,9 +5,9 @@ use Rattle.ats_terms.specs.Query.{IsQueryOf}
 use Rattle.ats_grammar.specs.Front.{IsBad}
 use Rattle.ats_grammar.specs.Grammar.{proof_schema}
 use Rattle.ats_proof.specs.Value.{Proof}
-use Rattle.ats_conjunction.specs.Bytes.{AreAcceptedBytes, AreRefusedBytes}
-use Rattle.ats_conjunction.specs.Documents.{documents_shown}
-use Rattle.ats_conjunction.specs.Headline.{AreBothOrCollide}
+use Rattle.ats_all_check.specs.Bytes.{AreAcceptedBytes, AreRefusedBytes}
+use Rattle.ats_all_check.specs.Documents.{documents_shown}
+use Rattle.ats_all_check.specs.Headline.{AreBothOrCollide}
 use Rattle.ats_reader.specs.Asked.{IsReadFault}
 use Rattle.ats_reader.specs.Shown.{IsShown}
 use Rattle.ats_reader.specs.Verdicts.{accepted}

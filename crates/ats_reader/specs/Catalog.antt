@@ -4,11 +4,11 @@ use Rattle.sha2.specs.Sha256.{sha256}
 use Rattle.ats_terms.specs.Query.{IsQueryOf}
 use Rattle.ats_grammar.specs.Front.{IsBad}
 use Rattle.ats_grammar.specs.Position.{AreDigests}
-use Rattle.ats_shards.specs.Catalog.{root_over}
-use Rattle.ats_shards.specs.Grammar.{catalog_schema}
-use Rattle.ats_shards.specs.Strings.{roots_collision}
-use Rattle.ats_catalog.specs.Bytes.{AreVerifiedRows, IsRefusedCatalog}
-use Rattle.ats_catalog.specs.declared.row.CatalogRow.{CatalogRow}
+use Rattle.ats_catalog_bytes.specs.Catalog.{root_over}
+use Rattle.ats_catalog_bytes.specs.Grammar.{catalog_schema}
+use Rattle.ats_catalog_bytes.specs.Strings.{roots_collision}
+use Rattle.ats_catalog_check.specs.Bytes.{AreVerifiedRows, IsRefusedCatalog}
+use Rattle.ats_catalog_check.specs.declared.row.CatalogRow.{CatalogRow}
 use Rattle.ats_reader.specs.Asked.{IsAsked, IsAskedFault}
 use Rattle.ats_reader.specs.Shown.{IsShown}
 use Rattle.ats_reader.specs.Verdicts.{shown_catalog_row, accepted}

@@ -2,11 +2,11 @@
 use Rattle.std.specs.Prelude.{◌≡◌, ℕ, List}
 use Rattle.sha2.specs.Sha256.{sha256}
 use Rattle.ats_grammar.specs.Front.{IsBad}
-use Rattle.ats_consistency.specs.Bytes.{IsAcceptedGrowth, IsRefusedGrowth}
-use Rattle.ats_consistency.specs.Grammar.{growth_schema}
-use Rattle.ats_consistency.specs.Headline.{IsGrownOrCollides}
-use Rattle.ats_consistency.specs.Value.{Growth}
-use Rattle.ats_consistency.specs.declared.checking.Grown.{Grown}
+use Rattle.ats_growth_check.specs.Bytes.{IsAcceptedGrowth, IsRefusedGrowth}
+use Rattle.ats_growth_check.specs.Grammar.{growth_schema}
+use Rattle.ats_growth_check.specs.Headline.{IsGrownOrCollides}
+use Rattle.ats_growth_check.specs.Value.{Growth}
+use Rattle.ats_growth_check.specs.declared.checking.Grown.{Grown}
 use Rattle.ats_reader.specs.Verdicts.{accepted}
 use Rattle.ats_reader.specs.declared.fault.Fault.{Fault}
 use Rattle.ats_reader.specs.declared.fault.Fault.TheVariants.{BadShape, GrowthRefused}

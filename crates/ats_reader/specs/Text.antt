@@ -2,10 +2,10 @@
 use Rattle.std.specs.Prelude.{◌≡◌, ◌+◌, ◌≤◌, ℕ, List, length, take, drop}
 use Rattle.sha2.specs.Sha256.{sha256}
 use Rattle.ats_grammar.specs.Front.{IsBad}
-use Rattle.ats_inclusion.specs.Bytes.{IsAcceptedText, IsRefusedText}
-use Rattle.ats_inclusion.specs.Grammar.{text_schema}
-use Rattle.ats_inclusion.specs.Strings.{IsOwnOrCollides}
-use Rattle.ats_inclusion.specs.Value.{TextProof}
+use Rattle.ats_text_check.specs.Bytes.{IsAcceptedText, IsRefusedText}
+use Rattle.ats_text_check.specs.Grammar.{text_schema}
+use Rattle.ats_text_check.specs.Strings.{IsOwnOrCollides}
+use Rattle.ats_text_check.specs.Value.{TextProof}
 use Rattle.ats_reader.specs.Verdicts.{accepted}
 use Rattle.ats_reader.specs.declared.answers.TextAt.{TextAt}
 use Rattle.ats_reader.specs.declared.fault.Fault.{Fault}

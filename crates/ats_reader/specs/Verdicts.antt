@@ -17,7 +17,7 @@ use Rattle.ats_refusal.specs.declared.text.TextRefusal.{TextRefusal}
 use Rattle.ats_refusal.specs.declared.text.TextRefusal.TheVariants as text
 use Rattle.ats_refusal.specs.declared.growth.GrowthRefusal.{GrowthRefusal}
 use Rattle.ats_refusal.specs.declared.growth.GrowthRefusal.TheVariants.{OtherOld, OtherNew, Shrunk, GrowthMisfit, OldTexts, NewTexts}
-use Rattle.ats_catalog.specs.declared.row.CatalogRow.{CatalogRow}
+use Rattle.ats_catalog_check.specs.declared.row.CatalogRow.{CatalogRow}
 use Rattle.ats_reader.specs.declared.fault.Fault.{Fault}
 use Rattle.ats_reader.specs.declared.fault.Fault.TheVariants.{NoText, RowsOut, FewRows, NoQuery, BadShape, Refused, BothRefused, FewDocuments, TextRefused, GrowthRefused, FewTerms, CatalogRefused, RootsOut, OutOfMemory}
 use Rattle.ats_reader.specs.declared.shown.ShownRow.{ShownRow}

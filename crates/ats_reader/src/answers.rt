@@ -4,7 +4,7 @@ ghost use Rattle.std.specs.Prelude.{◌≡◌, ◌≤◌, ℕ, List, length, IfO
 ghost use Rattle.sha2.specs.Sha256.{sha256};
 ghost use Rattle.ats_terms.specs.Query.{IsQueryOf};
 ghost use Rattle.ats_client.specs.Bytes.{AreVerifiedRows};
-ghost use Rattle.ats_catalog.specs.Bytes.{AreVerifiedRows as AreCatalogRows};
+ghost use Rattle.ats_catalog_check.specs.Bytes.{AreVerifiedRows as AreCatalogRows};
 ghost use Rattle.ats_reader.specs.Answer.{IsFault};
 ghost use Rattle.ats_reader.specs.Asked.{IsReadFault, IsAsked, IsAskedFault};
 ghost use Rattle.ats_reader.specs.Both.{AreDocuments, IsBothFault};
@@ -14,18 +14,18 @@ ghost use Rattle.ats_reader.specs.Query.{IsQueryFault};
 ghost use Rattle.ats_reader.specs.Text.{IsTextFault, IsTextAt};
 
 use crate::fault::Fault;
+use ats_all_check::{both_documents, check_both};
 use ats_bound::{Picks, Work};
-use ats_catalog::{CatalogFault, CatalogRows, verify_catalog};
+use ats_catalog_bytes::MAX_SHARDS;
+use ats_catalog_check::{CatalogFault, CatalogRows, verify_catalog};
 use ats_client::{VerifyFault, verify};
-use ats_conjunction::{both_documents, check_both};
-use ats_consistency::{Grown, GrowthView, check_growth};
+use ats_growth_check::{Grown, GrowthView, check_growth};
 use ats_hash::{Sha, Steps};
 use ats_impact::{Rows, Top};
-use ats_inclusion::{TextView, check_text};
 use ats_proof::ProofView;
 use ats_refusal::Rejection;
-use ats_shards::MAX_SHARDS;
 use ats_terms::Query;
+use ats_text_check::{TextView, check_text};
 use std::alloc::Global;
 use std::str;
 

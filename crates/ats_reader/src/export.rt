@@ -19,10 +19,10 @@ use crate::shown::{
     ShownCatalogRow, ShownRow, ShownTerm, Verdict, accepted, of_fault, shown_catalog_row,
     shown_row, shown_term,
 };
-use ats_catalog::CatalogRows;
+use ats_catalog_bytes::{catalog_root, roots_bind_catalogs};
+use ats_catalog_check::CatalogRows;
 use ats_hash::{Sha, Steps};
 use ats_impact::Rows;
-use ats_shards::{catalog_root, roots_bind_catalogs};
 use ats_terms::Query;
 use std::alloc::Global;
 use unicode_segmentation::UNICODE_VERSION;

@@ -7,7 +7,7 @@
 //! is accepted, or a [`shown::Verdict`] whose numbers say why there is nothing; [`export::ats_line`] makes the line of it
 //! that the commands print. `reader/ats_reader.h` at the top of the repository is the same for a reader of C.
 //!
-//! The room stands on `ats_client`, `ats_conjunction`, `ats_catalog`, `ats_inclusion` and `ats_consistency`, on no index,
+//! The room stands on `ats_client`, `ats_all_check`, `ats_catalog_check`, `ats_text_check` and `ats_growth_check`, on no index,
 //! and adds no rule of its own. Only what spells something accepted is shown, with its headline for every archive with the root (a file of
 //! `specs/` for each call); each other verdict has a stated cause. Buffers are the caller's: nothing is written past what
 //! is shown, too little room is reported before anything is written, and a text is not copied. How things are put together

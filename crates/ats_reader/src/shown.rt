@@ -4,7 +4,7 @@ ghost use Rattle.std.specs.Prelude.{◌≡◌, ◌<◌, ◌≤◌, ℕ, List, le
 ghost use Rattle.ats_reader.specs.Verdicts.{shown_row, shown_catalog_row, shown_term, accepted, refused, of_shard, verdict_of_query, verdict_of_shape, verdict_of_refusal, verdict_of_rejection, verdict_of_catalog, verdict_of_both, verdict_of_text, verdict_of_growth, verdict_of};
 
 use crate::fault::Fault;
-use ats_catalog::CatalogRow;
+use ats_catalog_check::CatalogRow;
 use ats_grammar::{ShapeFault, ShapeKind};
 use ats_impact::Row;
 use ats_refusal::{BothRefusal, CatalogRefusal, GrowthRefusal, Refusal, Rejection, TextRefusal};

@@ -6,8 +6,8 @@
 //! its words as a [`Phrase`]: words with a few numbers between them, which need no memory until they are printed.
 //!
 //! The room stands on `ats_grammar` for the faults of bytes, and on nothing else, so whoever prints why something was
-//! refused waits for no check. When a refusal is returned is said where it is checked: in `ats_client`, `ats_catalog`,
-//! `ats_inclusion`, `ats_conjunction` and `ats_consistency`. The words are those of `specs/Words.antt`, and may not change.
+//! refused waits for no check. When a refusal is returned is said where it is checked: in `ats_client`, `ats_catalog_check`,
+//! `ats_text_check`, `ats_all_check` and `ats_growth_check`. The words are those of `specs/Words.antt`, and may not change.
 //!
 //! ```
 //! let words = refusal_words(Refusal::ListRoot { term: 0 }).text(alloc)?; // "list-root 0"

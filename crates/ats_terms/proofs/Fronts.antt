@@ -18,16 +18,16 @@ front_by zero x y same = refl
 front_by (suc n) x y same =
     ap₂ (λ (f b : ℕ). f * 256 + b) (front_by n x y (λ i inside. same i (omega arith))) (same n (omega arith))
 
-zeros_behind : (term : List ℕ) (n i : ℕ) → get_or (term ++ replicate n 0) i 0 ≡ get_or term i 0
-zeros_behind [] zero i = refl
-zeros_behind [] (suc n) zero = refl
-zeros_behind [] (suc n) (suc i) = zeros_behind [] n i
-zeros_behind (b ∷ term) n zero = refl
-zeros_behind (b ∷ term) n (suc i) = zeros_behind term n i
+zeros_after : (term : List ℕ) (n i : ℕ) → get_or (term ++ replicate n 0) i 0 ≡ get_or term i 0
+zeros_after [] zero i = refl
+zeros_after [] (suc n) zero = refl
+zeros_after [] (suc n) (suc i) = zeros_after [] n i
+zeros_after (b ∷ term) n zero = refl
+zeros_after (b ∷ term) n (suc i) = zeros_after term n i
 
 -- zeros after a term change nothing
 pub front_padded : (n m : ℕ) (term : List ℕ) → front n (term ++ replicate m 0) ≡ front n term
-front_padded n m term = front_by n (term ++ replicate m 0) term (λ i inside. zeros_behind term m i)
+front_padded n m term = front_by n (term ++ replicate m 0) term (λ i inside. zeros_after term m i)
 
 -- the number of 8 bytes is the one that is read
 pub front_read : (term : List ℕ) → big_number 8 term ≡ front 8 term

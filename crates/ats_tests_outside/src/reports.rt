@@ -12,7 +12,7 @@ use std::marker::Model;
 
 /// A kind of call on a named file.
 #[derive(Clone, Copy)]
-pub enum Deed {
+pub enum FileCall {
     Read { from: u64 },
     Start,
     Append,
@@ -22,7 +22,7 @@ pub enum Deed {
 #[derive(Drop)]
 pub struct Asked {
     name: Bytes,
-    deed: Deed,
+    call: FileCall,
 }
 
 /// The calls on files, as long as there is memory for them.
@@ -33,7 +33,7 @@ pub struct Asks {
 }
 
 impl Asks {
-    ghost use Rattle.ats_tests_outside.specs.Inner.StandIns.{deed_of, told_asks};
+    ghost use Rattle.ats_tests_outside.specs.Inner.StandIns.{call_of, told_asks};
 
     pub fn new(alloc: Global) -> Self {
         Asks {
@@ -42,8 +42,8 @@ impl Asks {
         }
     }
 
-    pub fn note(&mut self, name: &[u8], deed: Deed)
-        ensures { Calls (told_asks self.old) (told_asks self.new) name.now (deed_of deed) }
+    pub fn note(&mut self, name: &[u8], call: FileCall)
+        ensures { Calls (told_asks self.old) (told_asks self.new) name.now (call_of call) }
     {
         let Some(mut all) = self.all.take() else {
             return;
@@ -51,7 +51,7 @@ impl Asks {
         let Ok(name) = Bytes::of(self.alloc, name) else {
             return;
         };
-        if all.push(Asked { name, deed }).is_ok() {
+        if all.push(Asked { name, call }).is_ok() {
             self.all = Some(all);
         }
     }

@@ -8,7 +8,7 @@ ghost use Rattle.ats_base.specs.Memory.{told_files};
 ghost use Rattle.ats_base.specs.MemoryLinks.{told_link};
 ghost use Rattle.ats_tests_outside.specs.Inner.StandIns.{told_asks};
 
-use crate::reports::{Asks, Deed, Opened};
+use crate::reports::{Asks, FileCall, Opened};
 use ats_base::{Bytes, Caller, Link, MemCaller, MemLink, MemShelf, MemSink, Shelf, Sink};
 use ats_outside::{Counts, Files, Net, Print, Stream, Words};
 use std::alloc::Global;
@@ -146,7 +146,7 @@ impl Files for SomeFiles<'_> {
     ghost told = { λ f. Some (record { name = f.name; bytes = f.bytes; place = f.place }) };
 
     fn create(&mut self, name: &str) -> io::Result<()> {
-        self.asks.note(name.as_bytes(), Deed::Start);
+        self.asks.note(name.as_bytes(), FileCall::Start);
         self.script.call("create")?;
         match self.shelf.start(name) {
             Ok(()) => Ok(()),
@@ -155,7 +155,7 @@ impl Files for SomeFiles<'_> {
     }
 
     fn append(&mut self, name: &str, bytes: &[u8]) -> io::Result<usize> {
-        self.asks.note(name.as_bytes(), Deed::Append);
+        self.asks.note(name.as_bytes(), FileCall::Append);
         if self.script.fails("append") {
             return Err(fault());
         }
@@ -172,7 +172,8 @@ impl Files for SomeFiles<'_> {
     }
 
     fn open(&mut self, name: &str, place: u64) -> io::Result<OpenFile> {
-        self.asks.note(name.as_bytes(), Deed::Read { from: place });
+        self.asks
+            .note(name.as_bytes(), FileCall::Read { from: place });
         self.script.call("open")?;
         let Some(bytes) = self.shelf.bytes_of(name) else {
             return Err(fault());
@@ -188,7 +189,7 @@ impl Files for SomeFiles<'_> {
 
     fn seek(&mut self, file: &mut OpenFile, place: u64) -> io::Result<()> {
         self.asks
-            .note(file.name.as_slice(), Deed::Read { from: place });
+            .note(file.name.as_slice(), FileCall::Read { from: place });
         self.script.call("seek")?;
         file.place = place;
         Ok(())

@@ -5,7 +5,7 @@ ghost use Rattle.ats_bound.specs.Chosen.{IsChosen};
 ghost use Rattle.ats_bound.specs.Cut.{bracket, threshold};
 ghost use Rattle.ats_bound.specs.Settled.{IsSettled};
 ghost use Rattle.ats_bound.specs.Schedule.{AreBracketsOf, AreWholeLanes, IsFirstSettled, shown, whole_lanes};
-ghost use Rattle.ats_bound.specs.Inner.Stand.{IsEnd};
+ghost use Rattle.ats_bound.specs.Inner.Stopped.{IsEnd};
 
 use crate::memory::OutOfMemory;
 use ats_bound::{Lane, Running, Walk};

@@ -13,7 +13,7 @@ use Rattle.ats_plan.specs.Files.{Files}
 use Rattle.ats_console.specs.Read.{HasIndex}
 use Rattle.ats_top.specs.Answering.{gives}
 use Rattle.ats_top.specs.Serving.{Session, HadSessions, Took, FailedToTake, faults_of, line_of_session, session_lines}
-use Rattle.ats_top.specs.Inner.Serving.{DoorAndSink, IsUntold, EndsServing, ServesLinks, Attends}
+use Rattle.ats_top.specs.Inner.Serving.{DoorAndSink, IsTextUnprinted, EndsServing, ServesLinks, ServesLinksOf}
 use Rattle.ats_top.specs.Served.{Listened, HasServed, serving_text}
 use Rattle.ats_top.specs.declared.serving.Halt.{Halt}
 use Rattle.ats_top.specs.declared.serving.Halt.TheVariants.{Door, Sink, Memory}
@@ -41,7 +41,7 @@ module _ (gives : Question → Reply → Type 0) (n faults : ℕ) (door mid now 
 
   -- one more link was served, and its line was not taken whole
   pub untold : (connections : ℕ) (halt : Halt) → n < connections → Had gives n faults door mid sink told sessions → session.served ≡ served
-      → HadSessions gives (session ∷ []) mid now → IsUntold told later (line_of_session (n + 1) served) halt
+      → HadSessions gives (session ∷ []) mid now → IsTextUnprinted told later (line_of_session (n + 1) served) halt
       → EndsServing gives connections (record { door = door; sink = sink }) (record { door = now; sink = later }) (sessions ++ session ∷ []) (Err halt)
   untold connections Door few (count, faulty, had, took) same one why = absurd why
   untold connections Sink few (count, faulty, had, took) same one why =
@@ -68,7 +68,7 @@ module _ (H : List ℕ → List ℕ) (files : Files) (words : ServeWords) (archi
   -- the result for the links after the line that says that the door listens
   pub attends : (sink told : SinkTold) (now : DoorAndSink) (result : Result ℕ Halt) → Took sink told (codes "listening\n")
       → ServesLinks (gives H archive) words.connections (record { door = opened; sink = told }) now result
-      → Attends H files words (record { door = before; sink = sink }) now result
+      → ServesLinksOf H files words (record { door = before; sink = sink }) now result
   attends sink told now (Ok faults) first (sessions, (all, faulty, had, took)) = (
     serving_text sessions,
     took_then sink told now.sink (codes "listening\n") (session_lines sessions) first took,

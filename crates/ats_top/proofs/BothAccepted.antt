@@ -13,10 +13,10 @@ use Rattle.ats_honest.specs.Lanes.{lanes_of}
 use Rattle.ats_honest.specs.Terms.{slot_of}
 use Rattle.ats_honest.proofs.Public.{spot_each}
 use Rattle.ats_accepts.proofs.Public.{section_rules_hold, shown_unclashing, whole_seen}
-use Rattle.ats_both.specs.Made.{both_cut, IsBothMade, IsBothProof}
-use Rattle.ats_conjunction.specs.Rules.{AcceptsBoth}
-use Rattle.ats_conjunction.specs.Bytes.{AreAcceptedBytes}
-use Rattle.ats_both.proofs.Public.{both_is_cut, both_accepted}
+use Rattle.ats_all_proof.specs.Made.{both_cut, IsBothMade, IsBothProof}
+use Rattle.ats_all_check.specs.Rules.{AcceptsBoth}
+use Rattle.ats_all_check.specs.Bytes.{AreAcceptedBytes}
+use Rattle.ats_all_proof.proofs.Public.{both_is_cut, both_accepted}
 
 module _ (H : List ℕ → List ℕ) (archive : Archive) (query : List (List ℕ × ℕ)) (proof : Proof) (made : IsBothMade H archive query proof) where
   abbrev cut : List ℕ

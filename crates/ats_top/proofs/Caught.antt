@@ -11,16 +11,16 @@ use Rattle.ats_proof.specs.Value.{Proof}
 use Rattle.ats_client.specs.Bytes.{IsAcceptedBytes}
 use Rattle.ats_client.specs.Strings.{proof_collision}
 use Rattle.ats_client.proofs.Public.{collision-collides}
-use Rattle.ats_conjunction.specs.Bytes.{AreAcceptedBytes}
-use Rattle.ats_inclusion.specs.Strings.{text_collision}
-use Rattle.ats_inclusion.specs.Value.{TextProof}
-use Rattle.ats_inclusion.specs.Bytes.{IsAcceptedText}
-use Rattle.ats_fetch.proofs.Public as texts
-use Rattle.ats_consistency.specs.Strings as growth
-use Rattle.ats_consistency.specs.Value.{Growth}
-use Rattle.ats_consistency.specs.Bytes.{IsAcceptedGrowth}
-use Rattle.ats_growth.proofs.Public as growths
-use Rattle.ats_shards.specs.Catalog.{catalog_root}
+use Rattle.ats_all_check.specs.Bytes.{AreAcceptedBytes}
+use Rattle.ats_text_check.specs.Strings.{text_collision}
+use Rattle.ats_text_check.specs.Value.{TextProof}
+use Rattle.ats_text_check.specs.Bytes.{IsAcceptedText}
+use Rattle.ats_text_proof.proofs.Public as texts
+use Rattle.ats_growth_check.specs.Strings as growth
+use Rattle.ats_growth_check.specs.Value.{Growth}
+use Rattle.ats_growth_check.specs.Bytes.{IsAcceptedGrowth}
+use Rattle.ats_growth_proof.proofs.Public as growths
+use Rattle.ats_catalog_bytes.specs.Catalog.{catalog_root}
 use Rattle.ats_catalog_audit.specs.Verdicts.{Shards, AreAcceptedShards, shards_collision}
 use Rattle.ats_catalog_audit.proofs.Public as catalogs
 use Rattle.ats_plan.specs.Files.{Files, IsTold}
@@ -37,7 +37,7 @@ use Rattle.ats_top.specs.Commands.{plan_of}
 use Rattle.ats_top.specs.Outside.{Outside}
 use Rattle.ats_top.specs.Run.{StepsHold, Excuse, NoMemory, SinkFailed, ShelfFailed, CallerFailed, DoorBroke, Ran}
 use Rattle.ats_top.specs.Serving.{Took}
-use Rattle.ats_top.specs.Theorem.{AuditsProof, AuditsText, AuditsBoth, AuditsGrowth, AuditsCatalog, IsHindered, IsCaught}
+use Rattle.ats_top.specs.Theorem.{AuditsProof, AuditsText, AuditsBoth, AuditsGrowth, AuditsCatalog, FailsForCause, IsCaught}
 use Rattle.ats_console.specs.declared.stops.Stop.TheVariants.{Shelf, Collision}
 use Rattle.ats_top.proofs.OneCommand.{its}
 use Rattle.ats_top.proofs.Sound.{plan_sound}
@@ -46,7 +46,7 @@ use Rattle.ats_top.proofs.StopPrinted.{stop_printed}
 -- a run of a command that comes to no link, and is refused by the lines of a collision
 module _ (H : List ℕ → List ℕ) (said : List (List ℕ)) (before now : Outside) (status : ℕ) (command : Command) (is : command_of said ≡ Some command)
     (calls : MayCall command → ⊥) (opens : MayOpen command → ⊥) where
-  hindered : Excuse H said before now status → IsHindered before now status
+  hindered : Excuse H said before now status → FailsForCause before now status
   hindered (NoMemory six some) = inl six
   hindered (SinkFailed seven rose) = inr (inr (seven, rose))
   hindered (ShelfFailed three comes rose) = inr (inl (three, rose))
@@ -55,7 +55,7 @@ module _ (H : List ℕ → List ℕ) (said : List (List ℕ)) (before now : Outs
       absurd (opens (its said (λ c. MayOpen c × StepsHold H before.shelf.files c) command may is).0)
 
   collision_printed : (lines : List ℕ) → IsTold before.shelf.files → Refuses Shelf before.shelf.files (plan_of H command) (Collision lines) → Ran H said before now status
-      → ((status ≡ 5) × Took before.sink now.sink lines) ⊎ IsHindered before now status
+      → ((status ≡ 5) × Took before.sink now.sink lines) ⊎ FailsForCause before now status
   collision_printed lines told refuses ran = elim (stop_printed H said before now command (Collision lines) is (plan_sound H command) (inl told) refuses status ran) [
     | inl printed ↦ inl printed
     | inr excuse ↦ inr (hindered excuse)

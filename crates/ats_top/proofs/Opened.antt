@@ -12,7 +12,7 @@ use Rattle.ats_wire.specs.declared.reply.Reply.{Reply}
 use Rattle.ats_console.specs.Words.{ServeWords}
 use Rattle.ats_plan.specs.Files.{Files}
 use Rattle.ats_top.specs.Serving.{Session, IsSession, after_session, broken_after, FailedToAccept, faults_of}
-use Rattle.ats_top.specs.Inner.Serving.{DoorAndSink, Attends}
+use Rattle.ats_top.specs.Inner.Serving.{DoorAndSink, ServesLinksOf}
 use Rattle.ats_top.specs.Served.{HasServed, KeepsContent, Opens}
 use Rattle.ats_top.specs.declared.serving.Halt.{Halt}
 use Rattle.ats_top.specs.declared.serving.Halt.TheVariants.{Door, Sink, Memory}
@@ -72,7 +72,7 @@ module _ (H : List ℕ → List ℕ) (files : Files) (words : ServeWords) (befor
     later = omega (arith, served.listened.same, served.had.same, failed.later);
   }
 
-  pub attends_opens : (was now : DoorAndSink) (result : Result ℕ Halt) → was.door ≡ before → Attends H files words was now result → Opens words before now.door
+  pub attends_opens : (was now : DoorAndSink) (result : Result ℕ Halt) → was.door ≡ before → ServesLinksOf H files words was now result → Opens words before now.door
   attends_opens was now (Ok faults) is (text, took, all) = opens_if_steps_hold now.door all.sessions (subst (λ (d : DoorTold). HasServed H files words d now.door all.sessions) is all.served)
   attends_opens was now (Err Door) is (text, took, inl shut) = subst (λ (d : DoorTold). Opens words d now.door) is (record {
     content = noted_keep words.address words.connections was.door.content now.door.content shut.failed.content;

@@ -11,7 +11,7 @@ use Rattle.ats_plan.proofs.Public.{leads_none, done_end}
 use Rattle.ats_console.specs.Steps.{reads_index, no_more, comes_to}
 use Rattle.ats_top.specs.Commands.{serve_plan}
 use Rattle.ats_console.specs.Stops.{Done, Unprinted}
-use Rattle.ats_top.specs.Inner.Serving.{DoorAndSink, Attends}
+use Rattle.ats_top.specs.Inner.Serving.{DoorAndSink, ServesLinksOf}
 use Rattle.ats_top.specs.Serving.{Took, FailedToTake}
 use Rattle.ats_top.specs.Served.{AreAllServed}
 use Rattle.ats_top.specs.Inner.Outcome.{PrintsStop, PrintsOutcome}
@@ -25,7 +25,7 @@ use Rattle.ats_top.proofs.Stopped.{stop_ended, stopped_after, link_printed}
 
 -- the count of the sink did not fall
 pub attends_later : (H : List ℕ → List ℕ) (files : Files) (words : ServeWords) (before now : DoorAndSink) (result : Result ℕ Halt)
-    → Attends H files words before now result → before.sink.faults ≤ now.sink.faults
+    → ServesLinksOf H files words before now result → before.sink.faults ≤ now.sink.faults
 attends_later H files words before now (Ok faults) (text, took, all) = omega (arith, took.same)
 attends_later H files words before now (Err Door) (text, took, how) = omega (arith, took.same)
 attends_later H files words before now (Err Sink) (former, last, failed, some) = failed.later
@@ -33,7 +33,7 @@ attends_later H files words before now (Err Memory) (text, took, some) = omega (
 
 -- the count of the door's faults is as before, unless the status is that of its fault
 pub attends_door : (H : List ℕ → List ℕ) (files : Files) (words : ServeWords) (before now : DoorAndSink) (outcome : Result ℕ Halt) (after : SinkTold) (result : ℕ)
-    → Attends H files words before now outcome → PrintsOutcome now.sink after outcome result → result ≢ 8 → result ≢ 7
+    → ServesLinksOf H files words before now outcome → PrintsOutcome now.sink after outcome result → result ≢ 8 → result ≢ 7
     → now.door.faults ≡ before.door.faults
 attends_door H files words before now (Ok faults) after result (text, took, all) prints not_door not_sink = all.served.had.same ∙ all.served.listened.same
 attends_door H files words before now (Err Door) after result (text, took, how) prints not_door not_sink =
@@ -80,7 +80,7 @@ module _ (H : List ℕ → List ℕ) (said : List (List ℕ)) (words : ServeWord
 
     -- the links were served, or not all
     pub served : (sink mid now : SinkTold) (door left : DoorTold) (outcome : Result ℕ Halt) (result : ℕ)
-        → Attends H shelf.files words (record { door = door; sink = sink }) (record { door = left; sink = mid }) outcome
+        → ServesLinksOf H shelf.files words (record { door = door; sink = sink }) (record { door = left; sink = mid }) outcome
         → PrintsOutcome mid now outcome result → Ended H said (at shelf sink door) (at later now left) result
     served sink mid now door left (Ok faults) result (text, took, all) (inl (none, done, quiet)) =
         let completed : IsCompleted H (at shelf sink door) (at later now left) (Serve words) text = record { plan = plan_done text; links = subst (λ (n : ℕ). AreAllServed H shelf.files words door left n text) none all } in

@@ -112,15 +112,15 @@ took_none before = record {
 }
 
 -- what was taken after all of a text, if the sink reports
-behind : (before mid now : Option (List ℕ)) (text more : List ℕ) → mid ≡ option_map (λ taken. taken ++ text) before → now ≡ option_map (λ taken. taken ++ more) mid
+taken_twice : (before mid now : Option (List ℕ)) (text more : List ℕ) → mid ≡ option_map (λ taken. taken ++ text) before → now ≡ option_map (λ taken. taken ++ more) mid
     → now ≡ option_map (λ taken. taken ++ (text ++ more)) before
-behind None mid now text more first second = second ∙ ap (λ (o : Option (List ℕ)). option_map (λ taken. taken ++ more) o) first
-behind (Some x) mid now text more first second =
+taken_twice None mid now text more first second = second ∙ ap (λ (o : Option (List ℕ)). option_map (λ taken. taken ++ more) o) first
+taken_twice (Some x) mid now text more first second =
     second ∙ ap (λ (o : Option (List ℕ)). option_map (λ taken. taken ++ more) o) first ∙ ap (λ (y : List ℕ). Some y) (append_assoc x text more)
 
 pub took_then : (before mid now : SinkTold) (text more : List ℕ) → Took before mid text → Took mid now more → Took before now (text ++ more)
 took_then before mid now text more first second = record {
-  all = behind before.taken mid.taken now.taken text more first.all second.all;
+  all = taken_twice before.taken mid.taken now.taken text more first.all second.all;
   same = second.same ∙ first.same;
 }
 
@@ -131,7 +131,7 @@ failed_then before mid now text former more first second = record {
   n = second.n;
   within = second.within;
   part = subst (λ (x : List ℕ). now.taken ≡ option_map (λ taken. taken ++ x) before.taken) (sym (append_assoc text former (take second.n more)))
-      (behind before.taken mid.taken now.taken text (former ++ take second.n more) first.all second.part);
+      (taken_twice before.taken mid.taken now.taken text (former ++ take second.n more) first.all second.part);
   cause = rw (← first.same) second.cause;
   later = omega (arith, first.same, second.later);
   last = second.last;

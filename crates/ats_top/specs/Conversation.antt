@@ -36,7 +36,7 @@ pub record Converses (address : List ℕ) (question : Question) (before now : Ca
   pub counted : now.faults ≡ counted_broken back.faults before.faults
 
 -- the address was called, and there was no link
-pub record CallsInVain (address : List ℕ) (before now : CallerTold) : Type 0 where
+pub record FailsToConnect (address : List ℕ) (before now : CallerTold) : Type 0 where
   pub noted : MayNoteCall address before.content now.content
   pub rose : Rose before.faults now.faults
   pub last : now.last_failed ≡ true
@@ -45,7 +45,7 @@ pub record CallsInVain (address : List ℕ) (before now : CallerTold) : Type 0 w
 -- being read
 pub record LosesLink (address : List ℕ) (question : Question) (before now : CallerTold) : Type 0 where
   pub rose : Rose before.faults now.faults
-  pub way : CallsInVain address before now
+  pub way : FailsToConnect address before now
       ⊎ (Converses address question before now (Err ReadFault) ⊎ Converses address question before now (Err WriteFault))
 
 -- the reply is no proof, and the line is that of its fault
@@ -58,5 +58,5 @@ pub record HearsFault (address : List ℕ) (question : Question) (before now : C
 
 -- the address was called once, and the link, if there was one, is back
 abbrev pub Calls : (address : List ℕ) → Question → (before now : CallerTold) → Type 0
-Calls address question before now = CallsInVain address before now
+Calls address question before now = FailsToConnect address before now
     ⊎ ((result : Result (List ℕ) AskFault) × Converses address question before now result)

@@ -69,8 +69,8 @@ pub record AuditsCatalog (H : List ℕ → List ℕ) (catalog : List Archive) (r
   pub file : IsFile files shown (2 ^ 28) bytes
 
 -- memory ran out; or the shelf or the sink failed, and the status is that of its fault
-abbrev pub IsHindered : (before now : Outside) → (status : ℕ) → Type 0
-IsHindered before now status = (status ≡ 6)
+abbrev pub FailsForCause : (before now : Outside) → (status : ℕ) → Type 0
+FailsForCause before now status = (status ≡ 6)
     ⊎ (((status ≡ 3) × Rose before.shelf.faults now.shelf.faults)
     ⊎ ((status ≡ 7) × Rose before.sink.faults now.sink.faults))
 
@@ -83,4 +83,4 @@ pub record IsCaught {P : Type 0} (H : List ℕ → List ℕ) (lines_of : Differe
   pub equal : H collision.ours ≡ H collision.theirs
   pub printed : (said : List (List ℕ)) (before now : Outside) (status : ℕ) → IsTold before.shelf.files
       → audits said before.shelf.files → Ran H said before now status
-      → ((status ≡ 5) × Took before.sink now.sink (lines_of collision)) ⊎ IsHindered before now status
+      → ((status ≡ 5) × Took before.sink now.sink (lines_of collision)) ⊎ FailsForCause before now status

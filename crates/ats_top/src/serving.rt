@@ -5,7 +5,7 @@ ghost use Rattle.ats_base.specs.Links.{CallerTold};
 ghost use Rattle.ats_wire.specs.Connections.{is_fault};
 ghost use Rattle.ats_top.specs.Answering.{gives};
 ghost use Rattle.ats_top.specs.Serving.{Session, HadSessions, FailedToAccept, Took, end_word, line_of_session};
-ghost use Rattle.ats_top.specs.Inner.Serving.{IsUntold, ServesLinks, Attends};
+ghost use Rattle.ats_top.specs.Inner.Serving.{IsTextUnprinted, ServesLinks, ServesLinksOf};
 ghost use Rattle.ats_top.specs.Served.{Opens};
 ghost use Rattle.ats_plan.specs.Files.{Files};
 ghost use Rattle.ats_console.specs.Read.{HasIndex};
@@ -80,7 +80,7 @@ fn serve_link<H: Hash32, D: Door>(
 // Passes the line of a served connection to the sink.
 fn announce<K: Sink>(alloc: Global, number: u32, served: Served, out: &mut K) -> Result<(), Halt>
     ensures told { OnOk result (Took (K.told out.old) (K.told out.new) (line_of_session number served)) }
-    ensures halt { IfErr result (IsUntold (K.told out.old) (K.told out.new) (line_of_session number served)) }
+    ensures halt { IfErr result (IsTextUnprinted (K.told out.old) (K.told out.new) (line_of_session number served)) }
 {
     let Ok(line) = session_line(alloc, number, served) else {
         return Err(Halt::Memory);
@@ -136,7 +136,7 @@ pub(crate) fn attend<H: Hash32, K: Sink, D: Door>(
     door: &mut D,
 ) -> Result<u32, Halt>
     ensures { (files : Files) (name : List ℕ) → HasIndex H.hash files name index.now
-        → Attends H.hash files (record { index = name; connections = connections; address = address.now })
+        → ServesLinksOf H.hash files (record { index = name; connections = connections; address = address.now })
         (record { door = D.told door.old; sink = K.told out.old })
         (record { door = D.told door.new; sink = K.told out.new }) result }
 {

@@ -11,11 +11,11 @@ ghost use Rattle.ats_commit.specs.Own.{AreTexts};
 ghost use Rattle.ats_commit.specs.Root.{root_of};
 ghost use Rattle.ats_proof.specs.declared.record.Algorithm.{Algorithm};
 ghost use Rattle.ats_client.specs.Headline.{AreRight};
-ghost use Rattle.ats_conjunction.specs.Documents.{both as with_every_term};
-ghost use Rattle.ats_consistency.specs.Headline.{HasGrown};
-ghost use Rattle.ats_shards.specs.Catalog.{IsCatalog, catalog_root};
-ghost use Rattle.ats_catalog.specs.Headline.{AreRightIn};
-ghost use Rattle.ats_catalog.specs.declared.row.CatalogRow.{CatalogRow};
+ghost use Rattle.ats_all_check.specs.Documents.{both as with_every_term};
+ghost use Rattle.ats_growth_check.specs.Headline.{HasGrown};
+ghost use Rattle.ats_catalog_bytes.specs.Catalog.{IsCatalog, catalog_root};
+ghost use Rattle.ats_catalog_check.specs.Headline.{AreRightIn};
+ghost use Rattle.ats_catalog_check.specs.declared.row.CatalogRow.{CatalogRow};
 ghost use Rattle.ats_plan.specs.Files.{IsFile};
 ghost use Rattle.ats_console.specs.Words.{algorithm_of, number_of, root_word, verify_words, fetch_words, both_words, growth_words, catalog_words};
 ghost use Rattle.ats_console.specs.Print.{lines, lines_of_catalog, lines_of_documents};
@@ -96,7 +96,7 @@ pub fn printed_answers_are_right<H: HashKind>()
 {}
 
 /// If one of these commands ends with status 0, all that its check says holds of the bytes that it accepted, and the sink
-/// took the text of this. So what an audit by `ats_audit`, `ats_fetch`, `ats_both`, `ats_growth` or `ats_catalog_audit` says
+/// took the text of this. So what an audit by `ats_audit`, `ats_text_proof`, `ats_all_proof`, `ats_growth_proof` or `ats_catalog_audit` says
 /// of these bytes is known without an index's file.
 pub fn accepted_answers_are_printed<H: HashKind>()
     ensures verify { (root r query proof digest : List ℕ) (n : ℕ) (before now : Outside)

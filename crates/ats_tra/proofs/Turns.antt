@@ -4,13 +4,13 @@ use Rattle.ats_bound.specs.declared.bracket.Bracket.{Bracket}
 use Rattle.ats_bound.specs.declared.walk.Walk.{Walk}
 use Rattle.ats_bound.specs.Chosen.{IsChosen}
 use Rattle.ats_bound.specs.Cut.{threshold}
-use Rattle.ats_bound.specs.Frontier.{IsStage, Stage, shown_on}
+use Rattle.ats_bound.specs.Cursors.{IsStage, Stage, shown_on}
 use Rattle.ats_bound.specs.Lookup.{Table, looked_up}
 use Rattle.ats_bound.specs.Schedule.{AreBracketsBy, Bounding, WholeLane, shown}
 use Rattle.ats_bound.specs.Scored.{ScoredStanding, exactly}
 use Rattle.ats_bound.specs.QuickTest.{TellsSettled}
 use Rattle.ats_bound.specs.Settled.{ArePicks, IsSettled}
-use Rattle.ats_bound.specs.Stand.{IsStand}
+use Rattle.ats_bound.specs.Stopped.{IsStoppedAt}
 use Rattle.ats_tra.specs.Inner.Looked.{score_by}
 use Rattle.ats_tra.proofs.Exact.{scores_are_looked}
 
@@ -36,9 +36,9 @@ pub finished : (bounds : Bounding) (lanes : List WholeLane) (r : ℕ) (walk : Sc
     → end.cut ≡ walk.stage.cut → end.brackets ≡ walk.brackets → end.threshold ≡ threshold (shown_on walk.stage) → IsChosen end.brackets walk.rows end.picks
     → ArePicks end.brackets end.picks
     → ((answer : List ℕ) → ArePicks end.brackets answer → IsSettled end.brackets answer end.threshold walk.rows → IsSettled end.brackets end.picks end.threshold walk.rows)
-    → AreBracketsBy bounds (shown lanes walk.stage.cut) walk.brackets → IsStand bounds lanes r walk.stage.cut end
+    → AreBracketsBy bounds (shown lanes walk.stage.cut) walk.brackets → IsStoppedAt bounds lanes r walk.stage.cut end
 finished bounds lanes r walk end same rows cut brackets limit chosen inside best of =
-    subst (λ (n : ℕ). IsStand bounds lanes n walk.stage.cut end) rows (record {
+    subst (λ (n : ℕ). IsStoppedAt bounds lanes n walk.stage.cut end) rows (record {
       cut = cut;
       brackets = subst (λ (bs : List Bracket). AreBracketsBy bounds (shown lanes walk.stage.cut) bs) (sym brackets) of;
       threshold = subst (λ (ls : List WholeLane). end.threshold ≡ threshold (shown ls walk.stage.cut)) same limit;

@@ -4,11 +4,11 @@ ghost use Rattle.std.specs.Prelude.{◌≡◌, IfOk};
 ghost use Rattle.ats_bound.specs.Chosen.{IsChosen};
 ghost use Rattle.ats_bound.specs.Cut.{threshold};
 ghost use Rattle.ats_bound.specs.Lookup.{looked_up};
-ghost use Rattle.ats_bound.specs.Frontier.{shown_on};
+ghost use Rattle.ats_bound.specs.Cursors.{shown_on};
 ghost use Rattle.ats_bound.specs.Scored.{exactly};
 ghost use Rattle.ats_bound.specs.Settled.{IsSettled};
 ghost use Rattle.ats_bound.specs.Schedule.{AreBracketsBy, AreWholeLanes, IsFirstSettledBy, shown, whole_lanes};
-ghost use Rattle.ats_bound.specs.Inner.Stand.{IsEnd};
+ghost use Rattle.ats_bound.specs.Inner.Stopped.{IsEnd};
 ghost use Rattle.ats_tra.specs.Inner.Looked.{score_by};
 
 use crate::access::RandomAccess;

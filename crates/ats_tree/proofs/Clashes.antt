@@ -22,7 +22,7 @@ use Rattle.ats_tree.specs.declared.clashing.Clash.{Clash}
 use Rattle.ats_tree.proofs.Bound.{IsWhole, is_whole}
 use Rattle.ats_tree.proofs.NodeLemmas.{length-path_of, number_of-path_of, same_path}
 use Rattle.ats_tree.proofs.Parts.{IsCut, need-cut, digest_with-take, leaf-tree}
-use Rattle.ats_tree.proofs.Places.{places-none}
+use Rattle.ats_tree.proofs.ShownPlaces.{places-none}
 use Rattle.ats_tree.proofs.Trees.{bare-of}
 
 -- ---- the first collision of strings one after another

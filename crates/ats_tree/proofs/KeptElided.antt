@@ -13,7 +13,7 @@ use Rattle.ats_tree.specs.Rebuild.{is_bare}
 use Rattle.ats_tree.specs.Elided.{shown_with, elided_of, elided_digests}
 use Rattle.ats_tree.specs.Kept.{digests_of, kept_digests, nodes_in, elided_places, digests_at, elided_part, elided_kept}
 use Rattle.ats_tree.proofs.Trees.{within-cut, within-suc, of-one, bare-of}
-use Rattle.ats_tree.proofs.Places.{length-places, places-none, places-one}
+use Rattle.ats_tree.proofs.ShownPlaces.{length-places, places-none, places-one}
 use Rattle.ats_tree.proofs.Parts.{HasLeaf, has_leaf-of, IsCut, is_cut}
 use Rattle.ats_tree.proofs.Bound.{SameShape}
 use Rattle.ats_tree.proofs.ElidedLemmas.{rises-with, places-front, shown-back}

@@ -16,7 +16,7 @@ use Rattle.ats_tree.specs.Rebuild.{is_bare, need, tree_of_places}
 use Rattle.ats_tree.specs.Differences.{Hashed, moved}
 use Rattle.ats_tree.specs.Strings.{below, strings, string_at, node_string, node_strings}
 use Rattle.ats_tree.proofs.Trees.{within-cut, within-suc, of-within}
-use Rattle.ats_tree.proofs.Places.{length-places}
+use Rattle.ats_tree.proofs.ShownPlaces.{length-places}
 
 -- ---- numbers of paths
 

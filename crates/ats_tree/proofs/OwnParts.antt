@@ -12,7 +12,7 @@ use Rattle.ats_tree.specs.Elided.{shown_with, elided_digests}
 use Rattle.ats_tree.specs.Kept.{kept_digests, elided_part}
 use Rattle.ats_tree.specs.OwnShown.{IsOwnShown}
 use Rattle.ats_tree.specs.Inner.OwnShown.{IsOwnPart}
-use Rattle.ats_tree.proofs.Places.{All-from, from-from, from-all, from-skip, rises-less}
+use Rattle.ats_tree.proofs.ShownPlaces.{All-from, from-from, from-all, from-skip, rises-less}
 use Rattle.ats_tree.proofs.Parts.{IsCut}
 use Rattle.ats_tree.proofs.KeptElided.{slice_from, part-none, part-one, part-cut, part-blank, kept-elided}
 use Rattle.ats_tree.proofs.KeptLemmas.{length-kept}

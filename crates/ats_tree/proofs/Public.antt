@@ -28,7 +28,7 @@ pub use Rattle.ats_tree.proofs.Parts.{leaf-tree}
 -- a tree of places is not bare if the first shown leaf is at one of them
 pub use Rattle.ats_tree.proofs.Parts.{whole-shows}
 -- the list of n places of a tree from any position on has length n
-pub use Rattle.ats_tree.proofs.Places.{length-places}
+pub use Rattle.ats_tree.proofs.ShownPlaces.{length-places}
 -- the two strings of the difference have equal digests under H
 pub use Rattle.ats_tree.proofs.Differences.{Collides}
 -- the first difference of two joined runs of strings is that of the first run, else of the second
@@ -99,15 +99,15 @@ pub use Rattle.ats_tree.proofs.KeptLemmas.{front-front}
 -- kept digests have 32 bytes each and the number of a tree's nodes, and the first is that of the tree
 pub use Rattle.ats_tree.proofs.KeptLemmas.{sized-kept, is_node_list, kept-first}
 -- places from b on are the same if only the shown leaves from b on are left
-pub use Rattle.ats_tree.proofs.Places.{places-from}
+pub use Rattle.ats_tree.proofs.ShownPlaces.{places-from}
 -- the shown leaves from c on, of those from b on, are those from c on
-pub use Rattle.ats_tree.proofs.Places.{from-from}
+pub use Rattle.ats_tree.proofs.ShownPlaces.{from-from}
 -- of shown leaves that rise, those from b on rise from b
-pub use Rattle.ats_tree.proofs.Places.{rises-from}
+pub use Rattle.ats_tree.proofs.ShownPlaces.{rises-from}
 -- what holds of all shown leaves holds of those from b on
-pub use Rattle.ats_tree.proofs.Places.{All-from}
+pub use Rattle.ats_tree.proofs.ShownPlaces.{All-from}
 -- all shown leaves are left if they rise from b
-pub use Rattle.ats_tree.proofs.Places.{from-all}
+pub use Rattle.ats_tree.proofs.ShownPlaces.{from-all}
 -- a rebuilt digest of a part binds the leaves shown there, unless the first difference collides
 pub use Rattle.ats_tree.proofs.ShownParts.{ShowsOwn, part-bound}
 -- sources of own strings with the same string at each place give the same first difference

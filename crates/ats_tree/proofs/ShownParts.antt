@@ -16,7 +16,7 @@ use Rattle.ats_tree.specs.Paths.{Path}
 use Rattle.ats_tree.specs.Differences.{Hashed, first_difference, IsOurs}
 use Rattle.ats_tree.specs.Strings.{strings, string_at}
 use Rattle.ats_tree.proofs.Trees.{below_power, within-cut, within-suc, of-within, bare-within}
-use Rattle.ats_tree.proofs.Places.{length-places}
+use Rattle.ats_tree.proofs.ShownPlaces.{length-places}
 use Rattle.ats_tree.proofs.Parts.{digest_with-take}
 use Rattle.ats_tree.proofs.Differences.{Collides}
 use Rattle.ats_tree.proofs.Bound.{SameShape, shape-within, Agrees, fits-within, fits-at, on_none, Bound, bound-tree, length-digest_of, length-digest_with, there-tree}

@@ -13,7 +13,7 @@ ghost use Rattle.ats_tree.specs.Strings.{strings, node_strings};
 ghost use Rattle.ats_tree.specs.Tree.{tree_of};
 
 use crate::cut::cut_of;
-use crate::lending::{LeafFeed, Lent};
+use crate::lending::{Lent, RemainingLeaves};
 use crate::own::OwnNodes;
 use crate::preimage::{LeafPreimage, Preimage};
 use crate::revealing::Revealed;
@@ -58,7 +58,7 @@ pub fn first_clash<'a, H: Hash32, R: Revealed<'a>, S: LeafPreimage<'a>, O: OwnNo
     ensures place { IfSome result (λ c. c.turns < 2 ^ c.depth) }
     ensures cost { steps.new ≤ steps.old + 5 * n }
 {
-    let _first = revealed.position();
+    let _facts = revealed.position();
     first_clash_in_part::<H, R, S, O>(0, n, revealed, own, steps).clash
 }
 
@@ -97,46 +97,46 @@ pub fn first_clash_in_part<'a, H: Hash32, R: Revealed<'a>, S: LeafPreimage<'a>, 
 }
 
 /// The same for a part of such a tree, to whose root the turns lead. So do the turns of the clash.
-fn part<H: Hash32, F: LeafFeed<S>, S: Preimage, O: OwnNodes<S>>(
+fn part<H: Hash32, F: RemainingLeaves<S>, S: Preimage, O: OwnNodes<S>>(
     from: u32,
     n: u32,
     depth: u8,
     turns: u32,
-    feed: &mut F,
+    remaining: &mut F,
     own: &O,
     steps: &mut Steps,
 ) -> ComparedPart<S>
     requires some { 1 ≤ n }
     requires ends { from + n < 2 ^ 32 }
     requires placed { IsPlaced n depth turns }
-    requires rising { RisesFrom from (F.leaves feed.old) }
-    requires enough { need (tree_of (places from n (F.leaves feed.old))) ≤ length (F.others feed.old) }
-    requires fit { All (λ s. S.fits s.1) (F.leaves feed.old) }
+    requires rising { RisesFrom from (F.leaves remaining.old) }
+    requires enough { need (tree_of (places from n (F.leaves remaining.old))) ≤ length (F.others remaining.old) }
+    requires fit { All (λ s. S.fits s.1) (F.leaves remaining.old) }
     requires space { steps.old + 5 * n < 2 ^ 64 }
-    ensures whole { IsPart H.hash from n (F.leaves feed.old) (F.others feed.old)
-        result.digest (F.leaves feed.new) (F.others feed.new) }
-    ensures still { F.stays feed.old feed.new }
+    ensures whole { IsPart H.hash from n (F.leaves remaining.old) (F.others remaining.old)
+        result.digest (F.leaves remaining.new) (F.others remaining.new) }
+    ensures still { F.stays remaining.old remaining.new }
     ensures clash { option_map (difference_of S.bytes) result.clash ≡ first_collision H.hash (O.ours own.now)
-        (part_strings H.hash (path_of depth turns) (tree_of (places from n (F.leaves feed.old))) (F.others feed.old)) }
+        (part_strings H.hash (path_of depth turns) (tree_of (places from n (F.leaves remaining.old))) (F.others remaining.old)) }
     ensures place { IfSome result.clash (λ c. c.turns < 2 ^ c.depth) }
     ensures cost { steps.new + 2 ≤ steps.old + 5 * n }
 {
-    match feed.first_position() {
+    match remaining.first_position() {
         Some(at) if at < from + n => {
             if n == 1 {
-                let theirs = feed.first_string();
-                let digest = feed.take_leaf::<H>(steps);
+                let theirs = remaining.first_string();
+                let digest = remaining.take_leaf::<H>(steps);
                 let clash = clash_or::<H, S, O>(own, depth, turns, theirs, &digest, None, steps);
                 ComparedPart { digest, clash }
             } else {
                 let k = cut_of(n);
-                let left = part::<H, F, S, O>(from, k, depth + 1, 2 * turns, feed, own, steps);
+                let left = part::<H, F, S, O>(from, k, depth + 1, 2 * turns, remaining, own, steps);
                 let right = part::<H, F, S, O>(
                     from + k,
                     n - k,
                     depth + 1,
                     2 * turns + 1,
-                    feed,
+                    remaining,
                     own,
                     steps,
                 );
@@ -148,7 +148,7 @@ fn part<H: Hash32, F: LeafFeed<S>, S: Preimage, O: OwnNodes<S>>(
             }
         }
         _ => {
-            let Some(digest) = feed.take_digest(steps) else {
+            let Some(digest) = remaining.take_digest(steps) else {
                 unreachable!()
             };
             ComparedPart {

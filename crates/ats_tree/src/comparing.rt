@@ -11,12 +11,12 @@ ghost use Rattle.ats_tree.specs.Inner.Part.{RisesWithin};
 use crate::cut::cut_of;
 use crate::eliding::count_below;
 use crate::node_strings::ShortLeaves;
-use crate::shown_tree::ShownTree;
+use crate::partial_tree::PartialTree;
 use ats_hash::Steps;
 
 /// Whether what is left begins with the part of `n` leaves from position `from` on, whose nodes have the first of these
 /// digests. If it does, the leaves before the part's end and the digests that it needs are taken.
-pub(crate) fn begins_with_part<L: ShortLeaves, S: ShownTree>(
+pub(crate) fn begins_with_part<L: ShortLeaves, S: PartialTree>(
     digests: &[[u8; 32]],
     leaves: &L,
     from: u32,
@@ -60,7 +60,7 @@ pub(crate) fn begins_with_part<L: ShortLeaves, S: ShownTree>(
 
 /// Whether the digests left begin with those that the leaves at `positions` need of the tree whose nodes have these
 /// digests. If they do, they are taken. It only compares: nothing is hashed, and no memory is taken.
-pub fn begins_with_elided<S: ShownTree>(
+pub fn begins_with_elided<S: PartialTree>(
     digests: &[[u8; 32]],
     positions: &[u32],
     shown: &mut S,
@@ -85,7 +85,7 @@ pub fn begins_with_elided<S: ShownTree>(
 }
 
 /// The same of the part of `n` leaves from position `from` on, whose nodes have the first of these digests.
-fn begins_with_elided_part<S: ShownTree>(
+fn begins_with_elided_part<S: PartialTree>(
     digests: &[[u8; 32]],
     from: u32,
     n: u32,

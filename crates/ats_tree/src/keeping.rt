@@ -19,7 +19,7 @@ use crate::hashed_string::HashedString;
 use crate::hashing::Leaves;
 use crate::keeping_by_threads::keep_by_threads;
 use crate::node_strings::{ShortLeaves, string_of_part};
-use crate::shown_tree::ShownTree;
+use crate::partial_tree::PartialTree;
 use ats_hash::{Hash32, HashKind, Steps};
 use std::alloc::Global;
 use std::marker::Model;
@@ -109,7 +109,7 @@ impl Nodes {
 
     /// Whether what is shown of a tree of `n` leaves is this tree's own, whose leaves these are. It only compares: nothing
     /// is hashed, and no memory is taken. What is left in `shown` afterwards is any.
-    pub fn has_shown<H: HashKind, L: ShortLeaves, S: ShownTree>(
+    pub fn has_shown<H: HashKind, L: ShortLeaves, S: PartialTree>(
         &self,
         leaves: &L,
         n: u32,
@@ -127,7 +127,7 @@ impl Nodes {
             return false;
         }
         // Positions rise.
-        let _first = shown.position();
+        let _facts = shown.position();
         if !begins_with_part(self.digests.as_slice(), leaves, 0, n, shown, steps) {
             return false;
         }

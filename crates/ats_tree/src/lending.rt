@@ -11,7 +11,7 @@ use std::marker::PhantomData;
 
 /// Leaves and digests, taken from the front. It names no lifetime, since no proof is generated for a recursion under a
 /// bound that names one, as `Revealed` does.
-pub(crate) trait Feed {
+pub(crate) trait Remaining {
     /// The positions and bytes of the leaves left.
     ghost leaves: { Self → List Shown };
 
@@ -50,7 +50,7 @@ pub(crate) trait Feed {
 }
 
 /// A source whose first leaf is seen as a string.
-pub(crate) trait LeafFeed<S: Preimage>: Feed {
+pub(crate) trait RemainingLeaves<S: Preimage>: Remaining {
     /// The first leaf left, under its tag.
     fn first_string(&self) -> S
         requires left { 0 < length (Self.leaves self.now) }
@@ -64,7 +64,7 @@ pub(crate) struct Lent<'a, 'r, R> {
     pub(crate) lends: PhantomData<&'a u8>,
 }
 
-impl<'a, R: Revealed<'a>> Feed for Lent<'a, '_, R> {
+impl<'a, R: Revealed<'a>> Remaining for Lent<'a, '_, R> {
     ghost leaves = { λ s. R.shown s.revealed.now };
 
     ghost others = { λ s. R.digests s.revealed.now };
@@ -93,7 +93,7 @@ impl<'a, R: Revealed<'a>> Feed for Lent<'a, '_, R> {
     }
 }
 
-impl<'a, R: Revealed<'a>, S: LeafPreimage<'a>> LeafFeed<S> for Lent<'a, '_, R> {
+impl<'a, R: Revealed<'a>, S: LeafPreimage<'a>> RemainingLeaves<S> for Lent<'a, '_, R> {
     fn first_string(&self) -> S {
         S::of_leaf(self.revealed.leaf_front(), self.revealed.leaf_back())
     }

@@ -152,15 +152,15 @@ turns_cut gives (turn ∷ turns) left tail rest stream end all is stops =
     let body : List ℕ = turn.0 in
     let answered = All-head (IsAnswered gives) turn turns all in
     let others = All-tail (IsAnswered gives) turn turns all in
-    let behind : List ℕ = (frames turns ++ tail) ++ rest in
-    let whole : stream ≡ to_be_bytes w32 (length body) ++ (body ++ behind) = is
+    let following : List ℕ = (frames turns ++ tail) ++ rest in
+    let whole : stream ≡ to_be_bytes w32 (length body) ++ (body ++ following) = is
     ∙ ap (λ (x : List ℕ). x ++ rest) (append_assoc (framed body) (frames turns) tail)
     ∙ append_assoc (framed body) (frames turns ++ tail) rest
-    ∙ append_assoc (to_be_bytes w32 (length body)) body behind in
-    let later = turns_cut gives turns left tail rest behind end others refl stops in (
+    ∙ append_assoc (to_be_bytes w32 (length body)) body following in
+    let later = turns_cut gives turns left tail rest following end others refl stops in (
       omega arith,
       answered.frame,
-      (behind, whole, subst (λ (k : ℕ). Cuts k (map (λ (t : List ℕ × Reply). t.0) turns) behind end) (omega arith) later),
+      (following, whole, subst (λ (k : ℕ). Cuts k (map (λ (t : List ℕ × Reply). t.0) turns) following end) (omega arith) later),
     )
 
 served_cut : (gives : Question → Reply → Type 0) (before now : LinkTold) (traffic : Traffic) (served : Served)

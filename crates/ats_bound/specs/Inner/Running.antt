@@ -1,17 +1,17 @@
 -- Beside specs/Running: what only the functions of this room promise one another.
 use Rattle.std.specs.Prelude.{◌≡◌, ◌≢◌, ◌⊎◌, ◌<◌, ◌≤◌, ℕ, List, length}
 use Rattle.ats_bound.specs.declared.bracket.Bracket.{Bracket}
-use Rattle.ats_bound.specs.declared.known.Met.{Met}
+use Rattle.ats_bound.specs.declared.met_documents.Met.{Met}
 use Rattle.ats_bound.specs.Inner.Best.{AreBest}
 use Rattle.ats_bound.specs.Cut.{ShownLane, bracket}
-use Rattle.ats_bound.specs.Frontier.{IsStage, Stage, shown_on}
-use Rattle.ats_bound.specs.Inner.Known.{AreKnown, lows, met_at}
+use Rattle.ats_bound.specs.Cursors.{IsStage, Stage, shown_on}
+use Rattle.ats_bound.specs.Inner.MetDocuments.{AreMetDocuments, lows, met_at}
 
 -- `met` is what is known of each met document, and `best` the largest of their lower bounds
 pub record IsRunning (stage : Stage) (rows : ℕ) (met : List Met) (best : List ℕ) : Type 0 where
   pub stands : IsStage stage
   pub some : 1 ≤ rows
-  pub known : AreKnown (shown_on stage) met
+  pub known : AreMetDocuments (shown_on stage) met
   pub size : length best ≡ rows
   pub greatest : AreBest best (lows met)
 

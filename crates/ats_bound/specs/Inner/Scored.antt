@@ -8,7 +8,7 @@ use Rattle.std.specs.Ordering.{nat_cmp}
 use Rattle.ats_bound.specs.declared.bracket.Bracket.{Bracket}
 use Rattle.ats_bound.specs.Inner.Best.{AreBest}
 use Rattle.ats_bound.specs.Cut.{names}
-use Rattle.ats_bound.specs.Frontier.{IsStage, Stage, shown_on}
+use Rattle.ats_bound.specs.Cursors.{IsStage, Stage, shown_on}
 use Rattle.ats_bound.specs.Scored.{exact}
 
 -- the brackets of documents with their scores

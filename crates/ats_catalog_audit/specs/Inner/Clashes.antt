@@ -2,8 +2,8 @@
 use Rattle.std.specs.Prelude.{ℕ, List}
 use Rattle.ats_tree.specs.Differences.{Hashed, Difference}
 use Rattle.ats_tree.specs.declared.clashing.Clash.{Clash}
-use Rattle.ats_shards.specs.Catalog.{string_over}
-use Rattle.ats_shards.specs.Strings.{RootsPlace, catalog_place, in_roots}
+use Rattle.ats_catalog_bytes.specs.Catalog.{string_over}
+use Rattle.ats_catalog_bytes.specs.Strings.{RootsPlace, catalog_place, in_roots}
 
 -- the two strings of a clash that was found in the tree of the roots
 abbrev pub difference_in : Clash (List ℕ) → Difference RootsPlace

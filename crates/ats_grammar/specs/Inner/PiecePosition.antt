@@ -12,10 +12,10 @@ use Rattle.ats_grammar.specs.Inner.Pending.{may_be_empty}
 use Rattle.ats_grammar.specs.PiecePosition.{IsAt, IsWaiting}
 
 -- a step of the reader: what it knew of the bytes it still knows, and it is closer to their end
-pub record IsOn (stand : PiecePosition) (rest : List ℕ) (after : PiecePosition) (behind : List ℕ) : Type 0 where
-  pub at : (bytes : List ℕ) → IsAt bytes stand rest → IsAt bytes after behind
-  pub fewer : after.came + length behind ≤ stand.came + length rest
-  pub smaller : may_be_empty after.state.part + 2 * length behind < may_be_empty stand.state.part + 2 * length rest
+pub record IsOn (stand : PiecePosition) (rest : List ℕ) (after : PiecePosition) (following : List ℕ) : Type 0 where
+  pub at : (bytes : List ℕ) → IsAt bytes stand rest → IsAt bytes after following
+  pub fewer : after.came + length following ≤ stand.came + length rest
+  pub smaller : may_be_empty after.state.part + 2 * length following < may_be_empty stand.state.part + 2 * length rest
 
 -- nothing is left to read
 abbrev pub IsStill : PiecePosition → List ℕ → Type 0

@@ -14,11 +14,11 @@ pub record IsTaken (next : Next) (bytes : List ℕ) (n : ℕ) (after : List ℕ)
   pub value : IsNumberOf next field n
 
 -- the bytes do not begin with the next field
-abbrev pub IsStuck : Next → List ℕ → Type 0
-IsStuck next bytes = (field after : List ℕ) → bytes ≡ field ++ after → IsField next field → ⊥
+abbrev pub BeginsWithNoField : Next → List ℕ → Type 0
+BeginsWithNoField next bytes = (field after : List ℕ) → bytes ≡ field ++ after → IsField next field → ⊥
 
 -- the bytes do not begin with the next field, and `kind` is why
 pub record IsRefused (next : Next) (bytes : List ℕ) (kind : ShapeKind) : Type 0 where
-  pub stuck : IsStuck next bytes
+  pub stuck : BeginsWithNoField next bytes
   pub more : IsOpen next bytes
   pub same : kind ≡ kind_of next (length bytes)

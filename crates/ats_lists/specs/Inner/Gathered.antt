@@ -22,9 +22,9 @@ pub record HasEntries (of : List ℕ → List Entry) (pairs : Pairs) : Type 0 wh
   pub entries : (term : List ℕ) → entries_for term pairs ≡ of term
   pub terms : All (λ pair. IsTerm pair.0) pairs
 
--- the pairs have the postings of the documents from `first` up to, but not including, `behind`
+-- the pairs have the postings of the documents from `first` up to, but not including, `end`
 abbrev pub HasRun : ℕ → ℕ → List (List ℕ) → Pairs → Type 0
-HasRun first behind texts pairs = HasEntries (postings_of_run first (behind - first) texts) pairs
+HasRun first end texts pairs = HasEntries (postings_of_run first (end - first) texts) pairs
 
 -- the term of a number
 abbrev pub term_of : List (List ℕ) → ℕ → List ℕ

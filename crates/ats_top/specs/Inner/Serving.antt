@@ -18,10 +18,10 @@ pub record DoorAndSink : Type 0 where
   pub sink : SinkTold
 
 -- why the sink did not take the whole text: it failed, or memory for the text ran out
-abbrev pub IsUntold : (before now : SinkTold) → List ℕ → Halt → Type 0
-IsUntold before now text Door = ⊥
-IsUntold before now text Sink = FailedToTake before now [] text
-IsUntold before now text Memory = now ≡ before
+abbrev pub IsTextUnprinted : (before now : SinkTold) → List ℕ → Halt → Type 0
+IsTextUnprinted before now text Door = ⊥
+IsTextUnprinted before now text Sink = FailedToTake before now [] text
+IsTextUnprinted before now text Memory = now ≡ before
 
 -- How serving `connections` links ended after these sessions: all links were served, and `faults` of them ended by a
 -- fault; or `accept` failed; or the sink did; or memory for the line of the last session ran out.
@@ -49,14 +49,14 @@ ServesLinks gives connections before now result = (sessions : List Session)
 
 -- The result of serving after the index was loaded: as many links as the words say were served; or the door failed, or
 -- the sink; or memory for a line ran out.
-abbrev pub Attends : (List ℕ → List ℕ) → Files → ServeWords → (before now : DoorAndSink) → Result ℕ Halt → Type 0
-Attends H files words before now (Ok faults) =
+abbrev pub ServesLinksOf : (List ℕ → List ℕ) → Files → ServeWords → (before now : DoorAndSink) → Result ℕ Halt → Type 0
+ServesLinksOf H files words before now (Ok faults) =
     (text : List ℕ) × Took before.sink now.sink text × AreAllServed H files words before.door now.door faults text
-Attends H files words before now (Err Door) =
+ServesLinksOf H files words before now (Err Door) =
     (text : List ℕ) × Took before.sink now.sink text
     × (IsDoorShut H files words before.door now.door text ⊎ IsDoorBroken H files words before.door now.door text)
-Attends H files words before now (Err Sink) =
+ServesLinksOf H files words before now (Err Sink) =
     (former : List ℕ) × (last : List ℕ) × FailedToTake before.sink now.sink former last
     × IsServingUnprinted H files words before.door now.door former last
-Attends H files words before now (Err Memory) =
+ServesLinksOf H files words before now (Err Memory) =
     (text : List ℕ) × Took before.sink now.sink text × IsLineUnmade H files words before.door now.door text

@@ -29,5 +29,5 @@ returns-in-None g c =
       none = none;
       answer = c.in-Ok-check_rows.ensures.rows;
       right = subst (AreRight archive.texts query c.args.top) (sym c.in-Ok-check_rows.ensures.rows)
-          (right_rows H archive query c.args.top proof c.collection-texts.ensures.texts headline none);
+          (right_rows H archive query c.args.top proof c.collection-facts.ensures.texts headline none);
     }

@@ -1,5 +1,5 @@
 use Rattle.std.proofs.Common.{vec_items, ◌^◌, ◌∙◌, [], sym, ap, subst}
-use Rattle.ats_catalog.specs.Headline.{AreRightIn}
+use Rattle.ats_catalog_check.specs.Headline.{AreRightIn}
 use Rattle.ats_console.specs.Names.{HasNames}
 use Rattle.ats_console.specs.Print.{lines_of_catalog}
 use Rattle.ats_console.specs.Words.{AuditCatalogWords}

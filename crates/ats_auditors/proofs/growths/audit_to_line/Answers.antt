@@ -1,5 +1,5 @@
 use Rattle.std.proofs.Common.{ap, ◌∙◌}
-use Rattle.ats_growth.proofs.Public.{collision-collides}
+use Rattle.ats_growth_proof.proofs.Public.{collision-collides}
 use Rattle.ats_console.specs.declared.stops.Stop.TheVariants.{Collision}
 use Rattle.ats_auditors.specs.Audited.{growth_audit}
 use Rattle.ats_auditors.proofs.AuditEnds.{collision_stops}

@@ -1,6 +1,6 @@
 use Rattle.std.proofs.Common.{◌∙◌, vec_items, ap}
-use Rattle.ats_inclusion.specs.Value.{TextProof}
-use Rattle.ats_inclusion.proofs.Public.{one_text}
+use Rattle.ats_text_check.specs.Value.{TextProof}
+use Rattle.ats_text_check.proofs.Public.{one_text}
 use Rattle.ats_plan.proofs.Public.{leads_none}
 use Rattle.ats_console.specs.Words.{AuditFetchWords}
 use Rattle.ats_console.specs.Kinds.{printed_text}

@@ -2,8 +2,8 @@ use Rattle.std.proofs.Common.{◌≡◌, ◌<◌, ◌+◌, ◌++◌, ◌∷◌, 
 use Rattle.std.specs.List.Sorted.{IsPermutation}
 use Rattle.std.proofs.lemmas.List.{get_or-map, length-map, map-append, map-set}
 use Rattle.std.proofs.lemmas.List.Sorted.{IsPermutation-sym, IsPermutation-to_front}
-use Rattle.ats_bound.specs.declared.known.Met.{Met}
-use Rattle.ats_bound.specs.Inner.Known.{lows}
+use Rattle.ats_bound.specs.declared.met_documents.Met.{Met}
+use Rattle.ats_bound.specs.Inner.MetDocuments.{lows}
 use Rattle.ats_bound.proofs.running.meet.Goals as goal
 
 pub returns-in-Some-clause-best : goal.returns-in-Some-clause-best

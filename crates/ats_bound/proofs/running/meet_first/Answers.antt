@@ -1,8 +1,8 @@
 use Rattle.std.proofs.Common.{◌≡◌, ℕ, List, length, refl, ap, subst, ◌∙◌, arith}
 use Rattle.std.proofs.lemmas.List.{length-map}
-use Rattle.ats_bound.specs.Inner.Known.{AreKnown}
+use Rattle.ats_bound.specs.Inner.MetDocuments.{AreMetDocuments}
 use Rattle.ats_bound.specs.Schedule.{WholeLane, shown, whole_lane, whole_lanes}
-use Rattle.ats_bound.proofs.KnownSteps.{begun_all, begun_cut, begun_none, first_known, first_space}
+use Rattle.ats_bound.proofs.MetSteps.{begun_all, begun_cut, begun_none, first_known, first_space}
 use Rattle.ats_bound.proofs.Shown.{no_lane, whole_at}
 use Rattle.ats_bound.proofs.running.meet_first.Goals as goal
 
@@ -34,4 +34,4 @@ pub returns-clause-known : goal.returns-clause-known
 returns-clause-known c =
     let wholes : List WholeLane = whole_lanes c.args.lanes.now in
     let end : c.loop-i.i ≡ length wholes = omega (arith, length-map c.args.lanes.now whole_lane) in
-    subst (λ (cut : List ℕ). AreKnown (shown wholes cut) c.loop-i.known) (ap (begun_cut wholes) end ∙ begun_all wholes) c.loop-i.invariant.known
+    subst (λ (cut : List ℕ). AreMetDocuments (shown wholes cut) c.loop-i.known) (ap (begun_cut wholes) end ∙ begun_all wholes) c.loop-i.invariant.known

@@ -1,4 +1,4 @@
-use Rattle.ats_shards.proofs.Public.{in_range}
+use Rattle.ats_catalog_bytes.proofs.Public.{in_range}
 use Rattle.ats_catalog_audit.proofs.Told.{told}
 use Rattle.ats_catalog_audit.proofs.laws.accepted_catalogs_are_audited.Goals as goal
 

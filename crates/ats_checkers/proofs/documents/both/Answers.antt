@@ -1,5 +1,5 @@
 use Rattle.std.proofs.Common.{vec_items}
-use Rattle.ats_both.proofs.Public.{told}
+use Rattle.ats_all_proof.proofs.Public.{told}
 use Rattle.ats_plan.proofs.Public.{leads_none}
 use Rattle.ats_console.specs.Words.{BothWords}
 use Rattle.ats_console.specs.Kinds.{both_kind}

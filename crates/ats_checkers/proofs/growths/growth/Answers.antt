@@ -1,5 +1,5 @@
 use Rattle.std.proofs.Common.{vec_items}
-use Rattle.ats_growth.proofs.Public.{told}
+use Rattle.ats_growth_proof.proofs.Public.{told}
 use Rattle.ats_plan.proofs.Public.{leads_none}
 use Rattle.ats_console.specs.Words.{GrowthWords}
 use Rattle.ats_console.specs.Kinds.{growth_kind}

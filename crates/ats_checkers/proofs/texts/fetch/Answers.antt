@@ -1,6 +1,6 @@
 use Rattle.std.proofs.Common.{vec_items}
-use Rattle.ats_inclusion.proofs.Public.{in_range, own_or_collides}
-use Rattle.ats_fetch.proofs.Public.{told}
+use Rattle.ats_text_check.proofs.Public.{in_range, own_or_collides}
+use Rattle.ats_text_proof.proofs.Public.{told}
 use Rattle.ats_plan.proofs.Public.{leads_none}
 use Rattle.ats_console.specs.Words.{FetchWords}
 use Rattle.ats_console.specs.Kinds.{text_kind}

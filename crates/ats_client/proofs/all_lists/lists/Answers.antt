@@ -24,12 +24,12 @@ unfolding prefixes_left entries_left
 loop-i-init g c =
     let proof = c.args.proof.now in
     let all : prefixes_left c.lists-left.result ≡ proof.lists = c.lists-left.ensures in
-    let size : length proof.lists ≡ present_in proof.slots = c.is_spelled.ensures.spelled.1.prefix_each in
+    let size : length proof.lists ≡ present_in proof.slots = c.facts.ensures.spelled.1.prefix_each in
     let enough : present_in proof.slots ≡ length (prefixes_left c.lists-left.result) = sym (ap (λ (l : List Prefix). length l) all ∙ size) in
     let zeros : c.begin.new.self.marks ≡ replicate (length proof.met) zero_mark = ap (λ (w : Marked). w.marks) c.begin.ensures.marks ∙ ap (λ (n : ℕ). replicate n zero_mark) c.met.ensures in
     record {
       passed = begins g.H.HashKind.hash c.args.query.now proof (prefixes_left c.lists-left.result) c.args.terms.now c.begin.new.self.marks all enough zeros c.requires.none;
-      ranges = subst (All IsPrefixInRange) (sym all) c.is_spelled.ensures.range.fronts;
+      ranges = subst (All IsPrefixInRange) (sym all) c.facts.ensures.range.fronts;
       dict = ap entries_left c.over-walk.ensures.all ∙ c.dict.ensures.entries;
       room = ap (λ (w : Marked). w.room) c.begin.ensures.marks;
       cost = omega (arith, c.begin.ensures.steps, c.met.type_inv);
@@ -80,7 +80,7 @@ loop-i-preserved g c =
     let p = c.loop-i.invariant.passed in
     let low : i < length proof.slots = omega (arith, c.loop-i-test.true, c.len-i-end.ensures.value, c.requires.each) in
     let here : c.loop-i.walk.place ≤ (slot_at proof.slots i).index = c.loop-i.invariant.before i (omega arith) low in
-    let rise = c.is_spelled.ensures.range.spots.rise in
+    let rise = c.facts.ensures.range.spots.rise in
     elim c.match-present.branch [
       | in-Some+in_ok-threshold w ↦
           let one : Presented = presented_of w.in-Some.one in
@@ -133,7 +133,7 @@ returns-clause-terms g c =
 
 pub returns-clause-marks : goal.returns-clause-marks
 returns-clause-marks g c =
-    marks_done g.H.HashKind.hash _ _ _ _ _ _ _ c.loop-i.invariant.passed (omega (arith, c.len-i-end.ensures.value)) (omega (arith, c.len-i-end.ensures.value, c.len-i-end.ensures.query.few)) c.is_spelled.ensures.range.ids.rise
+    marks_done g.H.HashKind.hash _ _ _ _ _ _ _ c.loop-i.invariant.passed (omega (arith, c.len-i-end.ensures.value)) (omega (arith, c.len-i-end.ensures.value, c.len-i-end.ensures.query.few)) c.facts.ensures.range.ids.rise
 
 pub returns-clause-free : goal.returns-clause-free
 returns-clause-free g c =

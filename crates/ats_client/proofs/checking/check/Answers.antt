@@ -14,7 +14,7 @@ returns-in_err-threshold-clause-refused g c =
 
 pub settled-requires-clause-count : goal.settled-requires-clause-count
 settled-requires-clause-count g c =
-    let few : items_of c.args.proof.now ≤ 2 ^ 26 = few_items c.is_spelled.ensures.spelled.0 c.args.proof.now c.is_spelled.ensures.spelled.1 in
+    let few : items_of c.args.proof.now ≤ 2 ^ 26 = few_items c.facts.ensures.spelled.0 c.args.proof.now c.facts.ensures.spelled.1 in
     omega (arith, few, c.check_shown.ensures.steps, c.requires.count)
 
 pub returns-clause-accepts : goal.returns-clause-accepts
@@ -25,6 +25,6 @@ returns-clause-accepts g c =
 pub returns-clause-headline : goal.returns-clause-headline
 returns-clause-headline g c =
     let proof : Proof = c.args.proof.now in
-    let is : IsProof c.is_spelled.ensures.spelled.0 proof = c.is_spelled.ensures.spelled.1 in
-    top_or_collides g.H.HashKind.hash g.H.HashKind.sized c.args.root.now c.args.query.now c.args.top proof c.in_ok-threshold.ensures.asked c.is_spelled.ensures.range
+    let is : IsProof c.facts.ensures.spelled.0 proof = c.facts.ensures.spelled.1 in
+    top_or_collides g.H.HashKind.hash g.H.HashKind.sized c.args.root.now c.args.query.now c.args.top proof c.in_ok-threshold.ensures.asked c.facts.ensures.range
     is.prefix_each is.documents (returns-clause-accepts g c)

@@ -90,8 +90,8 @@ returns-clause-holds g c = record {
 pub returns-clause-bounded : goal.returns-clause-bounded
 returns-clause-bounded g c =
     let proof : Proof = c.args.proof.now in
-    let is : IsProof c.is_spelled.ensures.spelled.0 proof = c.is_spelled.ensures.spelled.1 in
-    bounded_or_collides g.H.HashKind.hash g.H.HashKind.sized c.args.root.now c.args.query.now proof c.in_ok-opened.ensures.asked c.is_spelled.ensures.range
+    let is : IsProof c.facts.ensures.spelled.0 proof = c.facts.ensures.spelled.1 in
+    bounded_or_collides g.H.HashKind.hash g.H.HashKind.sized c.args.root.now c.args.query.now proof c.in_ok-opened.ensures.asked c.facts.ensures.range
     is.prefix_each is.documents (returns-clause-holds g c)
 
 pub returns-clause-marks : goal.returns-clause-marks

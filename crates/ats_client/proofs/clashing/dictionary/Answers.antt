@@ -11,5 +11,5 @@ in_tree-requires g c κs =
     let proof = c.args.proof.now in
     let rebuilds = rebuilds_by g.H.HashKind.hash One One c.header-leaves.result.dict_leaves proof.header.dict_leaves _ _ _ _ proof.header.dict_root refl
     (ap (λ (h : Header). h.dict_leaves) c.header-leaves.ensures) c.dict-section.ensures.shown c.dict-section.ensures.digests c.requires.rooted in
-    let short = subst (All (λ (s : Shown). length s.1 ≤ 127)) (sym c.dict-section.ensures.shown) (dictionary-short proof.dict c.is_spelled.ensures.range.terms.each) in
+    let short = subst (All (λ (s : Shown). length s.1 ≤ 127)) (sym c.dict-section.ensures.shown) (dictionary-short proof.dict c.facts.ensures.range.terms.each) in
     ((refl, tt), (tt, ((λ two. absurd (cc two)), (rebuilds, (omega arith, ((λ two. absurd (cc two)), (short, omega (arith, c.requires.space))))))))

@@ -17,7 +17,7 @@ pub in_tree-requires : goal.in_tree-requires
 in_tree-requires g c κs =
     let proof : Proof = c.args.proof.now in
     let docs : Documents = documents_of c.in_ok-docs.docs in
-    let range : AreDocumentsInRange docs = c.is_spelled.ensures.range.shown docs c.in_ok-docs.ensures.documents in
+    let range : AreDocumentsInRange docs = c.facts.ensures.range.shown docs c.in_ok-docs.ensures.documents in
     let shown = c.revealed-section.ensures.shown ∙ c.in_ok-docs.ensures.whole in
     let rebuilds = documents_rebuild g.H.HashKind.hash (ours g.H.HashKind.hash (g.O.OwnStrings.archive c.args.own.now) c.args.query.now) proof.header proof.met proof.docs docs
     c.header-leaves.result.documents (docs_leaves_of c.revealed-section.result) (digests_of c.revealed-section.result.digests) c.in_ok-docs.ensures.documents
@@ -34,7 +34,7 @@ returns-in-Some g c =
     (difference_of c.in-Some.clash) c.in-Some.ensures.clash
 
 pub each-requires-clause-range : goal.each-requires-clause-range
-each-requires-clause-range g c = c.is_spelled.ensures.range.shown (documents_of c.in_ok-docs.docs) c.in_ok-docs.ensures.documents
+each-requires-clause-range g c = c.facts.ensures.range.shown (documents_of c.in_ok-docs.docs) c.in_ok-docs.ensures.documents
 
 pub each-requires-clause-right : goal.each-requires-clause-right
 each-requires-clause-right g c =

@@ -22,13 +22,13 @@ loop-i-init g c =
     let query = c.args.query.now in
     let proof : Proof = c.args.proof.now in
     let all : prefixes_left c.lists-left.result ≡ proof.lists = c.lists-left.ensures in
-    let size : length proof.lists ≡ present_in proof.slots = c.is_spelled.ensures.spelled.1.prefix_each in
+    let size : length proof.lists ≡ present_in proof.slots = c.facts.ensures.spelled.1.prefix_each in
     let here : presented query proof ≡ presented_from proof.dict 0 query proof.slots (prefixes_left c.lists-left.result) =
     ap (λ (l : List Prefix). presented_from proof.dict 0 query proof.slots l) (sym all) in
     record {
       looked = ap (λ (ones : List Presented). first_collision H (ours H (g.O.OwnStrings.archive c.args.own.now) query) (flat_map (list_strings H proof.format proof.met) ones)) here;
       right = subst (All (IsListRight H proof.format proof.met)) here c.requires.right;
-      ranges = subst (All IsPrefixInRange) (sym all) c.is_spelled.ensures.range.fronts;
+      ranges = subst (All IsPrefixInRange) (sym all) c.facts.ensures.range.fronts;
       enough = sym (ap (λ (l : List Prefix). length l) all ∙ size);
       dict = ap entries_left c.over-walk.ensures.all ∙ c.dict.ensures.entries;
       cost = omega arith;

@@ -68,7 +68,7 @@ document-requires-clause-spots g c =
     let docs : Documents = documents_of c.in-Some.docs in
     let section : TermsSection = section_of c.in-Some-next.doc in
     let at = first_at g.H.HashKind.hash c.args.query.now proof docs docs.sections (sections_of c.loop-index.left) c.loop-index.index section (c.loop-index.invariant.tried docs c.in-Some.ensures.documents).sections_left c.in-Some-next.ensures.section in
-    (at_place IsSectionInRange docs.sections c.loop-index.index section (c.is_spelled.ensures.range.shown docs c.in-Some.ensures.documents).sections at).spots
+    (at_place IsSectionInRange docs.sections c.loop-index.index section (c.facts.ensures.range.shown docs c.in-Some.ensures.documents).sections at).spots
 
 pub document-requires-clause-numbers : goal.document-requires-clause-numbers
 document-requires-clause-numbers g c =
@@ -120,7 +120,7 @@ loop-index-preserved g c =
     record {
       tried = λ docs is. tries H query proof docs j (ids_of c.loop-index.left) (ids_of c.next.new.self) (doc_leaves_of c.loop-index.left) (doc_leaves_of c.next.new.self)
           (sections_of c.loop-index.left) (sections_of c.next.new.self) c.loop-index.work.marks c.noted.new.work.marks one.doc one.leaf one.section c.in_ok-score.score c.args.threshold
-          c.is_spelled.ensures.range.ids.rise (c.loop-index.invariant.tried docs is) c.in-Some-next.ensures.doc c.in-Some-next.ensures.leaf c.in-Some-next.ensures.section
+          c.facts.ensures.range.ids.rise (c.loop-index.invariant.tried docs is) c.in-Some-next.ensures.doc c.in-Some-next.ensures.leaf c.in-Some-next.ensures.section
           c.in-Some-next.ensures.passed_ids c.in-Some-next.ensures.passed_leaves c.in-Some-next.ensures.passed_sections right scores c.in_ok-score.ensures.small c.requires.threshold
           c.noted.ensures.marks;
       room = c.noted.ensures.room ∙ c.loop-index.invariant.room;

@@ -55,7 +55,7 @@ loop-i-preserved c =
       dict = ap entries_left c.shows.ensures.same ∙ c.loop-i.invariant.dict;
       right = slots_more query c.args.proof.now i c.loop-i.invariant.right (test.0 c.if-not-shows.false);
       cost = omega (arith, c.shows.ensures.cost, c.slot-slot.ensures.cost, c.loop-i.invariant.cost);
-      before = before_next c.shows.new.self.place c.args.proof.now.slots i c.is_spelled.ensures.range.spots.rise (omega (arith, c.shows.ensures.place, at));
+      before = before_next c.shows.new.self.place c.args.proof.now.slots i c.facts.ensures.range.spots.rise (omega (arith, c.shows.ensures.place, at));
       most = omega (
         arith,
         c.shows.ensures.most (omega (arith, at, c.loop-i.invariant.before i (omega arith) low)),

@@ -19,7 +19,7 @@ loop-i-init c =
     let all : prefixes_left c.lists-left.result ≡ proof.lists = c.lists-left.ensures in
     record {
       later = ap (λ (l : List Prefix). list_any is_whole (presented_from proof.dict 0 c.args.query.now proof.slots l)) (sym all);
-      enough = sym (ap (λ (l : List Prefix). length l) all ∙ c.is_spelled.ensures.spelled.1.prefix_each);
+      enough = sym (ap (λ (l : List Prefix). length l) all ∙ c.facts.ensures.spelled.1.prefix_each);
       dict = ap entries_left c.over-walk.ensures.all ∙ c.dict.ensures.entries;
       before = before_first c.over-walk.result.place proof.slots c.over-walk.ensures.place;
       cost = omega arith;
@@ -55,7 +55,7 @@ loop-i-preserved c =
     let i : ℕ = c.loop-i.i in
     let low : i < length proof.slots = omega (arith, c.loop-i-test.true, c.len-i-end.ensures.value, c.requires.each) in
     let here : c.loop-i.walk.place ≤ (slot_at proof.slots i).index = c.loop-i.invariant.before i (omega arith) low in
-    let rise = c.is_spelled.ensures.range.spots.rise in
+    let rise = c.facts.ensures.range.spots.rise in
     elim c.match-present.branch [
       | in-Some+else-len-f w ↦
           let one : Presented = presented_of w.in-Some.one in

@@ -1,4 +1,4 @@
-use Rattle.ats_tree.specs.declared.hashed.Tree.TheVariants.{List as ListTree, Terms as TermsTree}
+use Rattle.ats_tree.specs.declared.places.Tree.TheVariants.{List as ListTree, Terms as TermsTree}
 use Rattle.ats_commit.specs.Places.{in_tree, numbers_at}
 use Rattle.ats_commit.proofs.OwnPlaces.{own_within, own_fits, none_in_list, none_past}
 use Rattle.ats_commit.proofs.laws.own_strings_stand_in_trees.Goals as goal

@@ -11,7 +11,7 @@ use Rattle.ats_index.proofs.FrontLemmas.{shown_leaf, first_more, first_next, sho
 use Rattle.ats_index.proofs.fronts.first_shown.Goals as goal
 
 pub take_leaf-requires-clause-short : goal.take_leaf-requires-clause-short
-take_leaf-requires-clause-short g c = first_short (g.S.ShownTree.shown c.loop-i.shown) c.loop-i.invariant.short
+take_leaf-requires-clause-short g c = first_short (g.S.PartialTree.shown c.loop-i.shown) c.loop-i.invariant.short
 
 pub take_leaf-requires-clause-space : goal.take_leaf-requires-clause-space
 take_leaf-requires-clause-space g c = omega (arith, c.loop-i.invariant.cost, c.requires.space, c.requires.few, c.loop-i-test.true, c.len-i-end.ensures)
@@ -19,9 +19,9 @@ take_leaf-requires-clause-space g c = omega (arith, c.loop-i.invariant.cost, c.r
 -- another leaf
 pub returns-then-ne-clause-none : goal.returns-then-ne-clause-none
 returns-then-ne-clause-none g c fits all =
-    let left : List Shown = g.S.ShownTree.shown c.loop-i.shown in
+    let left : List Shown = g.S.PartialTree.shown c.loop-i.shown in
     let is = shown_some left c.in-Some.at (sym c.in-Some.ensures.first) in
-    let own = first_next c.args.entries.now (g.S.ShownTree.shown c.args.shown.now) (drop 1 left) (c.in-Some.at, first_leaf left) c.loop-i.i
+    let own = first_next c.args.entries.now (g.S.PartialTree.shown c.args.shown.now) (drop 1 left) (c.in-Some.at, first_leaf left) c.loop-i.i
     (c.loop-i.invariant.same ∙ ap (λ (xs : List Shown). first_leaves c.args.entries.now c.loop-i.i ++ xs) is) all in
     let leaf : first_leaf left ≡ get_or (map leaf_bytes c.args.entries.now) c.loop-i.i [] = ap (λ (s : Shown). s.1) own in
     let same : c.bytes.result.now ≡ c.bytes-in-Some.result.now =
@@ -33,9 +33,9 @@ returns-then-ne-clause-none g c fits all =
 -- a leaf elsewhere
 pub returns-in-Some-2-clause-none : goal.returns-in-Some-2-clause-none
 returns-in-Some-2-clause-none g c fits all =
-    let left : List Shown = g.S.ShownTree.shown c.loop-i.shown in
+    let left : List Shown = g.S.PartialTree.shown c.loop-i.shown in
     let is = shown_some left c.in-Some.at (sym c.in-Some.ensures.first) in
-    let own = first_next c.args.entries.now (g.S.ShownTree.shown c.args.shown.now) (drop 1 left) (c.in-Some.at, first_leaf left) c.loop-i.i
+    let own = first_next c.args.entries.now (g.S.PartialTree.shown c.args.shown.now) (drop 1 left) (c.in-Some.at, first_leaf left) c.loop-i.i
     (c.loop-i.invariant.same ∙ ap (λ (xs : List Shown). first_leaves c.args.entries.now c.loop-i.i ++ xs) is) all in
     let here : c.in-Some.at ≡ c.loop-i.i = ap (λ (s : Shown). s.0) own in
     c.if-at-i.false here
@@ -43,17 +43,17 @@ returns-in-Some-2-clause-none g c fits all =
 -- no leaf is left
 pub returns-in-None-clause-count : goal.returns-in-None-clause-count
 returns-in-None-clause-count g c =
-    sym (ended c.args.entries.now (g.S.ShownTree.shown c.args.shown.now) (g.S.ShownTree.shown c.loop-i.shown) c.loop-i.i c.loop-i.invariant.same (sym c.in-None.ensures.first))
+    sym (ended c.args.entries.now (g.S.PartialTree.shown c.args.shown.now) (g.S.PartialTree.shown c.loop-i.shown) c.loop-i.i c.loop-i.invariant.same (sym c.in-None.ensures.first))
 
 pub returns-in-None-position-clause-count : goal.returns-in-None-position-clause-count
 returns-in-None-position-clause-count g c =
-    let size = ended c.args.entries.now (g.S.ShownTree.shown c.args.shown.now) (g.S.ShownTree.shown c.loop-i.shown) c.loop-i.i c.loop-i.invariant.same (sym c.in-None-position.ensures.first) in
+    let size = ended c.args.entries.now (g.S.PartialTree.shown c.args.shown.now) (g.S.PartialTree.shown c.loop-i.shown) c.loop-i.i c.loop-i.invariant.same (sym c.in-None-position.ensures.first) in
     omega (arith, size, c.loop-i-test.false, c.len-i-end.ensures, c.len.ensures, c.loop-i.auto.i-end)
 
 -- the next leaf
 pub loop-i-preserved : goal.loop-i-preserved
 loop-i-preserved g c =
-    let left : List Shown = g.S.ShownTree.shown c.loop-i.shown in
+    let left : List Shown = g.S.PartialTree.shown c.loop-i.shown in
     let is = shown_some left c.in-Some.at (sym c.in-Some.ensures.first) in
     let equal : bytes_eq c.bytes.result.now c.bytes-in-Some.result.now ≡ true = unequal _ (sym c.ne.ensures ∙ c.if-ne.false) in
     let same : c.bytes.result.now ≡ c.bytes-in-Some.result.now = (bytes_eq-Decides c.bytes.result.now c.bytes-in-Some.result.now).0 equal in
@@ -62,7 +62,7 @@ loop-i-preserved g c =
     let own : (c.in-Some.at, first_leaf left) ≡ shown_leaf c.args.entries.now c.loop-i.i =
     ap₂ (λ (p : ℕ) (d : List ℕ). (p, d)) c.if-at-i.true (ap (drop 1) strings) in
     record {
-      same = first_more c.args.entries.now (g.S.ShownTree.shown c.args.shown.now) (drop 1 left) (c.in-Some.at, first_leaf left) c.loop-i.i
+      same = first_more c.args.entries.now (g.S.PartialTree.shown c.args.shown.now) (drop 1 left) (c.in-Some.at, first_leaf left) c.loop-i.i
           (c.loop-i.invariant.same ∙ ap (λ (xs : List Shown). first_leaves c.args.entries.now c.loop-i.i ++ xs) is) own
           ∙ ap (λ (xs : List Shown). first_leaves c.args.entries.now (c.loop-i.i + 1) ++ xs) (sym c.take_leaf.ensures.passed);
       digests = c.take_leaf.ensures.others ∙ c.loop-i.invariant.digests;
@@ -77,5 +77,5 @@ loop-i-preserved g c =
 -- more leaves than entries
 pub returns-in-Some-position-clause-none : goal.returns-in-Some-position-clause-none
 returns-in-Some-position-clause-none g c fits all =
-    let size = too_many c.args.entries.now (g.S.ShownTree.shown c.args.shown.now) (g.S.ShownTree.shown c.loop-i.shown) c.loop-i.i c.in-Some-position.field-0 c.loop-i.invariant.same (sym c.in-Some-position.ensures.first) in
+    let size = too_many c.args.entries.now (g.S.PartialTree.shown c.args.shown.now) (g.S.PartialTree.shown c.loop-i.shown) c.loop-i.i c.in-Some-position.field-0 c.loop-i.invariant.same (sym c.in-Some-position.ensures.first) in
     absurd (omega (arith, size, fits, c.loop-i-test.false, c.len-i-end.ensures, length-map c.args.entries.now leaf_bytes))

@@ -6,7 +6,7 @@ abbrev pub invariant-loop-low : goal.invariant-loop-low
 invariant-loop-low l = record {
   low : l.first ≤ l.low;
   order : l.low ≤ l.high;
-  high : l.high ≤ l.behind;
+  high : l.high ≤ l.end;
 }
 
 abbrev pub decreases-loop-low : goal.decreases-loop-low

@@ -18,7 +18,7 @@ returns-in_default-number-clause-bad c =
     let magic = rw c.in-Some.is at (strip_prefix_is Decides-eqb c.args.bytes.now (codes "ATSI") c.strip_prefix.result c.strip_prefix.ensures.cases) in
     record {
       field = Documents c.in-Some-format_of.format;
-      behind = c.in-Some-format_of.counted.now;
+      following = c.in-Some-format_of.counted.now;
       reached = tt;
       place = refl;
       same = magic ∙ ap (λ xs. codes "ATSI" ++ xs) c.in-Some-format_of.ensures.same;

@@ -54,7 +54,7 @@ loop-document-preserved c =
     omega (arith, so_far.sum, c.in-Some-text_of.ensures.long, sum_by-append Length texts (text ∷ []), sum_by-cons Length text []) in
     rw c.in_ok-push.ensures
     (record {
-      same = text_read c.args.bytes.now c.in-Ok.found.0 c.in-Ok.found.1 texts rest so_far.same c.in-Some.size text c.in-Some-text_of.behind.now
+      same = text_read c.args.bytes.now c.in-Ok.found.0 c.in-Ok.found.1 texts rest so_far.same c.in-Some.size text c.in-Some-text_of.following.now
           c.in-Some-text_of.ensures.long c.in-Some.ensures.same (sym (to_end 4 rest) ∙ c.in-Some-text_of.ensures.same);
       count = length-append texts (text ∷ []) ∙ omega (arith, so_far.count);
       utf8 = All-push IsUtf8 texts text so_far.utf8 c.in-Some-text_of.ensures.utf8;

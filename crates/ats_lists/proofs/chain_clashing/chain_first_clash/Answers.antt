@@ -37,7 +37,7 @@ search_trees-first-requires g c κs =
 pub pass_next-requires : goal.pass_next-requires
 pass_next-requires g c κs =
     let sized : All (λ (d : List ℕ). length d ≡ 32) (g.R.Revealed.digests c.search_trees-first.new.revealed) =
-    rw c.search_trees-first.ensures.whole.digests_left (All-drop (λ (d : List ℕ). length d ≡ 32) _ _ c.position-first.ensures.sized)
+    rw c.search_trees-first.ensures.whole.digests_left (All-drop (λ (d : List ℕ). length d ≡ 32) _ _ c.position-facts.ensures.sized)
     in ((refl, tt), (sized, omega (arith, c.search_trees-first.ensures.cost, c.requires.space)))
 
 -- the digest of the next block is there

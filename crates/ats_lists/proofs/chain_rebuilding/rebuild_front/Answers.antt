@@ -78,7 +78,7 @@ returns-in-None-clause-used g c = (
 pub returns-in-None-clause-bound : goal.returns-in-None-clause-bound
 returns-in-None-clause-bound g c =
     chain-bound_to g.H.HashKind.hash g.H.HashKind.sized c.args.f (g.R.Revealed.shown c.args.revealed.now) (g.R.Revealed.digests c.args.revealed.now) c.link_blocks.result
-    c.requires.front c.position-first.ensures.sized (sym (returns-in-None-clause-value g c))
+    c.requires.front c.position-facts.ensures.sized (sym (returns-in-None-clause-value g c))
 
 pub returns-in-None-clause-by_items : goal.returns-in-None-clause-by_items
 returns-in-None-clause-by_items g c =

@@ -5,4 +5,4 @@ use Rattle.ats_proof.proofs.sizes.leaves_size.Goals as goal
 
 pub leaves-preserved : goal.leaves-preserved
 leaves-preserved c =
-    rw c.cut_leaf.ensures.rest (along_more (leaf_size c.args.behind) c.args.count c.args.bytes.now c.leaves.left c.leaves.rest.now (omega (arith, c.leaves-test.true)) c.leaves.invariant)
+    rw c.cut_leaf.ensures.rest (along_more (leaf_size c.args.after_term) c.args.count c.args.bytes.now c.leaves.left c.leaves.rest.now (omega (arith, c.leaves-test.true)) c.leaves.invariant)

@@ -5,8 +5,8 @@ use Rattle.ats_bound.specs.QuickTest.{TellsSettled}
 use Rattle.ats_bound.specs.Running.{Standing}
 use Rattle.ats_bound.specs.Schedule.{AreWholeLanes, CanSettleBy, IsCut, IsNextLane, WholeLane, shown, whole_lanes}
 use Rattle.ats_bound.specs.Settled.{IsSettled}
-use Rattle.ats_bound.specs.Stand.{IsStand}
-use Rattle.ats_bound.specs.Inner.Stand.{IsReached}
+use Rattle.ats_bound.specs.Stopped.{IsStoppedAt}
+use Rattle.ats_bound.specs.Inner.Stopped.{IsReached}
 use Rattle.ats_bound.proofs.Public.{end_at, reached_after, reached_first, is_narrow, missing_within, fewer_hidden, have_entries, scheduled_is_cut, whole_settled}
 use Rattle.ats_tnra.proofs.walking.first_settled.Goals as goal
 
@@ -45,10 +45,10 @@ loop-lane-preserved c =
     })
 
 -- the state of the walk, for the lists that it was given
-stand_of : (lanes : List WholeLane) (r : ℕ) (walk : Standing) (end : Walk) → walk.lanes ≡ lanes → walk.rows ≡ r → IsStand bracket walk.lanes walk.rows walk.cut end
-    → IsStand bracket lanes r walk.cut end
-stand_of lanes r walk end same rows stand =
-    subst (λ (n : ℕ). IsStand bracket lanes n walk.cut end) rows (subst (λ (ls : List WholeLane). IsStand bracket ls walk.rows walk.cut end) same stand)
+stopped_of : (lanes : List WholeLane) (r : ℕ) (walk : Standing) (end : Walk) → walk.lanes ≡ lanes → walk.rows ≡ r → IsStoppedAt bracket walk.lanes walk.rows walk.cut end
+    → IsStoppedAt bracket lanes r walk.cut end
+stopped_of lanes r walk end same rows stopped =
+    subst (λ (n : ℕ). IsStoppedAt bracket lanes n walk.cut end) rows (subst (λ (ls : List WholeLane). IsStoppedAt bracket ls walk.rows walk.cut end) same stopped)
 
 pub returns-then-settled : goal.returns-then-settled
 returns-then-settled c =
@@ -56,10 +56,10 @@ returns-then-settled c =
     let lanes : List WholeLane = whole_lanes c.args.lanes.now in
     let end : Walk = c.in_ok-finish.field-0 in
     let told : TellsSettled bracket walk.lanes walk.rows walk.cut c.in_ok-settled.settled = c.in_ok-settled.ensures.told in
-    let stand : IsStand bracket walk.lanes walk.rows walk.cut end = c.in_ok-finish.ensures in
-    let settled : IsSettled end.brackets end.picks (threshold (shown walk.lanes walk.cut)) walk.rows = (told.chosen end.brackets end.picks stand.brackets stand.chosen).0 c.if-settled.true in
-    end_at bracket lanes c.args.top walk.cut end c.loop-lane.invariant.reached (stand_of lanes c.args.top walk end c.loop-lane.invariant.lanes c.loop-lane.invariant.rows stand)
-    (subst (λ (r : ℕ). IsSettled end.brackets end.picks end.threshold r) c.loop-lane.invariant.rows (rw stand.threshold settled))
+    let stopped : IsStoppedAt bracket walk.lanes walk.rows walk.cut end = c.in_ok-finish.ensures in
+    let settled : IsSettled end.brackets end.picks (threshold (shown walk.lanes walk.cut)) walk.rows = (told.chosen end.brackets end.picks stopped.brackets stopped.chosen).0 c.if-settled.true in
+    end_at bracket lanes c.args.top walk.cut end c.loop-lane.invariant.reached (stopped_of lanes c.args.top walk end c.loop-lane.invariant.lanes c.loop-lane.invariant.rows stopped)
+    (subst (λ (r : ℕ). IsSettled end.brackets end.picks end.threshold r) c.loop-lane.invariant.rows (rw stopped.threshold settled))
 
 pub returns : goal.returns
 returns c =
@@ -68,6 +68,6 @@ returns c =
     let end : Walk = c.in_ok-finish-2.field-0 in
     let all : List ShownLane = shown lanes walk.cut in
     let none : threshold all ≡ 0 = subst (λ (ls : List WholeLane). threshold (shown ls walk.cut) ≡ 0) c.loop-lane.invariant.lanes c.in_default.ensures.next in
-    let stand : IsStand bracket lanes c.args.top walk.cut end = stand_of lanes c.args.top walk end c.loop-lane.invariant.lanes c.loop-lane.invariant.rows c.in_ok-finish-2.ensures in
-    end_at bracket lanes c.args.top walk.cut end c.loop-lane.invariant.reached stand
-    (whole_settled bracket lanes c.args.top walk.cut end (λ doc. is_narrow (threshold all) doc (lo_of all doc) (missing all doc) (missing_within all doc)) stand none)
+    let stopped : IsStoppedAt bracket lanes c.args.top walk.cut end = stopped_of lanes c.args.top walk end c.loop-lane.invariant.lanes c.loop-lane.invariant.rows c.in_ok-finish-2.ensures in
+    end_at bracket lanes c.args.top walk.cut end c.loop-lane.invariant.reached stopped
+    (whole_settled bracket lanes c.args.top walk.cut end (λ doc. is_narrow (threshold all) doc (lo_of all doc) (missing all doc) (missing_within all doc)) stopped none)

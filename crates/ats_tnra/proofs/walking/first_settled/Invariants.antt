@@ -3,7 +3,7 @@ use Rattle.std.specs.List.{sum_by}
 use Rattle.ats_bound.specs.Cut.{bracket}
 use Rattle.ats_bound.specs.Running.{shown_in}
 use Rattle.ats_bound.specs.Schedule.{CanSettleBy, whole_lanes}
-use Rattle.ats_bound.specs.Inner.Stand.{IsReached}
+use Rattle.ats_bound.specs.Inner.Stopped.{IsReached}
 use Rattle.ats_bound.proofs.Public.{hidden}
 use Rattle.ats_tnra.proofs.walking.first_settled.Given as goal
 

@@ -1,7 +1,7 @@
 use Rattle.std.proofs.Common.{inr}
 use Rattle.ats_commit.specs.Root.{root_of}
-use Rattle.ats_fetch.specs.Given.{given_text}
-use Rattle.ats_fetch.proofs.Public.{given-accepted, given-none}
+use Rattle.ats_text_proof.specs.Given.{given_text}
+use Rattle.ats_text_proof.proofs.Public.{given-accepted, given-none}
 use Rattle.ats_console.specs.Words.{Fetch, Checker}
 use Rattle.ats_console.proofs.Public.{texts_of}
 use Rattle.ats_top.proofs.SaidWords.{fetch_said}

@@ -1,7 +1,7 @@
 use Rattle.std.proofs.Common.{inr}
 use Rattle.ats_commit.specs.Root.{root_of}
-use Rattle.ats_growth.specs.Honest.{honest}
-use Rattle.ats_growth.proofs.Public.{honest_accepted, honest-none}
+use Rattle.ats_growth_proof.specs.Honest.{honest}
+use Rattle.ats_growth_proof.proofs.Public.{honest_accepted, honest-none}
 use Rattle.ats_console.specs.Words.{Growth, Checker}
 use Rattle.ats_console.proofs.Public.{texts_of}
 use Rattle.ats_top.proofs.SaidWords.{growth_said}

@@ -1,9 +1,9 @@
 use Rattle.std.proofs.Common.{◌⊎◌, List, [], ◌∷◌, IsSome, codes, sym, subst}
 use Rattle.ats_client.specs.Rows.{rows_of}
-use Rattle.ats_conjunction.specs.Documents.{documents_shown}
-use Rattle.ats_catalog.specs.Headline.{AreRightIn}
-use Rattle.ats_catalog.specs.Strings.{catalog_collision}
-use Rattle.ats_catalog.specs.declared.row.CatalogRow.{CatalogRow}
+use Rattle.ats_all_check.specs.Documents.{documents_shown}
+use Rattle.ats_catalog_check.specs.Headline.{AreRightIn}
+use Rattle.ats_catalog_check.specs.Strings.{catalog_collision}
+use Rattle.ats_catalog_check.specs.declared.row.CatalogRow.{CatalogRow}
 use Rattle.ats_console.specs.Words.{verify_words, fetch_words, both_words, growth_words, catalog_words}
 use Rattle.ats_top.specs.Serving.{Took}
 use Rattle.ats_top.proofs.Caught.{or_caught, proof_caught, text_caught, both_caught, growth_caught, catalog_caught}

@@ -1,13 +1,13 @@
 use Rattle.std.proofs.Common.{◌≡◌, ℕ, List, true, sym, ap, subst, ◌∙◌}
 use Rattle.ats_bound.specs.declared.walk.Walk.{Walk}
 use Rattle.ats_bound.specs.Cut.{threshold}
-use Rattle.ats_bound.specs.Frontier.{Stage}
+use Rattle.ats_bound.specs.Cursors.{Stage}
 use Rattle.ats_bound.specs.Lookup.{Table, looked_up}
 use Rattle.ats_bound.specs.Schedule.{AreBracketsBy, Bounding, CanSettleBy, IsNextLane, WholeLane, shown, whole_lanes, whole_lane}
 use Rattle.ats_bound.specs.Scored.{AreFirstScores, ScoredStanding}
 use Rattle.ats_bound.specs.QuickTest.{TellsSettled}
 use Rattle.ats_bound.specs.Settled.{IsSettled}
-use Rattle.ats_bound.specs.Stand.{IsStand}
+use Rattle.ats_bound.specs.Stopped.{IsStoppedAt}
 use Rattle.ats_bound.proofs.Public.{end_at, reached_after, reached_first, fewer_hidden, whole_settled}
 use Rattle.ats_tra.specs.Inner.Looked.{score_by}
 use Rattle.ats_tra.proofs.Exact.{looked_is_narrow}
@@ -64,10 +64,10 @@ returns-then-settled g c =
     let cut : List ℕ = walk.stage.cut in
     let known : AreBracketsBy bounds (shown lanes cut) walk.brackets = looked_there table lanes walk.stage walk.brackets c.loop-lane.invariant.lanes c.next_lane.ensures.stage c.loop-lane.invariant.known in
     let told : TellsSettled bounds lanes c.args.top cut c.settled.result = told_there bounds lanes c.args.top walk c.settled.result c.loop-lane.invariant.lanes c.loop-lane.invariant.rows c.settled.ensures.tells known in
-    let stand : IsStand bounds lanes c.args.top cut end = finished bounds lanes c.args.top walk end c.loop-lane.invariant.lanes c.loop-lane.invariant.rows
+    let stopped : IsStoppedAt bounds lanes c.args.top cut end = finished bounds lanes c.args.top walk end c.loop-lane.invariant.lanes c.loop-lane.invariant.rows
     c.in_ok-finish.ensures.cut c.in_ok-finish.ensures.brackets c.in_ok-finish.ensures.threshold c.in_ok-finish.ensures.picks c.in_ok-finish.ensures.inside c.in_ok-finish.ensures.best known in
-    let settled : IsSettled end.brackets end.picks (threshold (shown lanes cut)) c.args.top = (told.chosen end.brackets end.picks stand.brackets stand.chosen).0 c.if-settled.true in
-    end_at bounds lanes c.args.top cut end c.loop-lane.invariant.reached stand (rw (stand.threshold) settled)
+    let settled : IsSettled end.brackets end.picks (threshold (shown lanes cut)) c.args.top = (told.chosen end.brackets end.picks stopped.brackets stopped.chosen).0 c.if-settled.true in
+    end_at bounds lanes c.args.top cut end c.loop-lane.invariant.reached stopped (rw (stopped.threshold) settled)
 
 pub returns : goal.returns
 returns g c =
@@ -78,8 +78,8 @@ returns g c =
     let end : Walk = c.in_ok-finish-2.field-0 in
     let cut : List ℕ = walk.stage.cut in
     let known : AreBracketsBy bounds (shown lanes cut) walk.brackets = looked_there table lanes walk.stage walk.brackets c.loop-lane.invariant.lanes c.next_lane.ensures.stage c.loop-lane.invariant.known in
-    let stand : IsStand bounds lanes c.args.top cut end = finished bounds lanes c.args.top walk end c.loop-lane.invariant.lanes c.loop-lane.invariant.rows
+    let stopped : IsStoppedAt bounds lanes c.args.top cut end = finished bounds lanes c.args.top walk end c.loop-lane.invariant.lanes c.loop-lane.invariant.rows
     c.in_ok-finish-2.ensures.cut c.in_ok-finish-2.ensures.brackets c.in_ok-finish-2.ensures.threshold c.in_ok-finish-2.ensures.picks c.in_ok-finish-2.ensures.inside c.in_ok-finish-2.ensures.best known in
     let none : threshold (shown lanes cut) ≡ 0 = subst (λ (ls : List WholeLane). threshold (shown ls cut) ≡ 0) c.loop-lane.invariant.lanes c.in_default.ensures.next in
-    end_at bounds lanes c.args.top cut end c.loop-lane.invariant.reached stand
-    (whole_settled bounds lanes c.args.top cut end (looked_is_narrow table (shown lanes cut)) stand none)
+    end_at bounds lanes c.args.top cut end c.loop-lane.invariant.reached stopped
+    (whole_settled bounds lanes c.args.top cut end (looked_is_narrow table (shown lanes cut)) stopped none)

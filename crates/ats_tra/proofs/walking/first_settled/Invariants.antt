@@ -1,9 +1,9 @@
 use Rattle.std.proofs.Common.{◌≡◌}
 use Rattle.std.specs.List.{sum_by}
-use Rattle.ats_bound.specs.Frontier.{shown_on}
+use Rattle.ats_bound.specs.Cursors.{shown_on}
 use Rattle.ats_bound.specs.Lookup.{looked_up}
 use Rattle.ats_bound.specs.Schedule.{AreBracketsBy, CanSettleBy, whole_lanes}
-use Rattle.ats_bound.specs.Inner.Stand.{IsReached}
+use Rattle.ats_bound.specs.Inner.Stopped.{IsReached}
 use Rattle.ats_bound.specs.Scored.{exactly}
 use Rattle.ats_bound.proofs.Public.{hidden}
 use Rattle.ats_tra.specs.Inner.Looked.{score_by}

@@ -16,7 +16,7 @@ use Rattle.ats_tree.proofs.comparing.+begins_with_elided_part.Goals as goal
 pub returns-in-Some-clause-exact : goal.returns-in-Some-clause-exact
 returns-in-Some-clause-exact g t c =
     let nodes : List (List ℕ) = c.args.digests.now
-    in let ds : List (List ℕ) = g.S.ShownTree.digests c.args.shown.now
+    in let ds : List (List ℕ) = g.S.PartialTree.digests c.args.shown.now
     in let own : List ℕ = get_or nodes 0 []
     in let theirs : List ℕ = c.in-Some.theirs
     in let e : elided_part nodes c.args.from c.args.n (shown_with [] c.args.positions.now) ≡ own ∷ [] =
@@ -35,12 +35,12 @@ returns-in-Some-clause-left g t c holds =
     let nodes : List (List ℕ) = c.args.digests.now
     in let e : elided_part nodes c.args.from c.args.n (shown_with [] c.args.positions.now) ≡ get_or nodes 0 [] ∷ [] =
     kept-none nodes [] c.args.from c.args.n c.args.positions.now c.requires.some (eqb-true _ _ (sym c.if-is_empty.ensures))
-    in c.take_digest.ensures.passed ∙ ap (λ (xs : List (List ℕ)). drop (length xs) (g.S.ShownTree.digests c.args.shown.now)) (sym e)
+    in c.take_digest.ensures.passed ∙ ap (λ (xs : List (List ℕ)). drop (length xs) (g.S.PartialTree.digests c.args.shown.now)) (sym e)
 
 pub returns-in-None-clause-exact : goal.returns-in-None-clause-exact
 returns-in-None-clause-exact g t c =
     let nodes : List (List ℕ) = c.args.digests.now
-    in let ds : List (List ℕ) = g.S.ShownTree.digests c.args.shown.now
+    in let ds : List (List ℕ) = g.S.PartialTree.digests c.args.shown.now
     in let own : List ℕ = get_or nodes 0 []
     in let e : elided_part nodes c.args.from c.args.n (shown_with [] c.args.positions.now) ≡ own ∷ [] =
     kept-none nodes [] c.args.from c.args.n c.args.positions.now c.requires.some (eqb-true _ _ (sym c.if-is_empty.ensures))
@@ -59,7 +59,7 @@ returns-then-n-eq1-clause-exact g t c =
     in let some : 0 < length c.args.positions.now = omega arith
     in let e : elided_part c.args.digests.now c.args.from c.args.n (shown_with [] c.args.positions.now) ≡ [] =
     kept-shown c.args.digests.now [] c.args.from c.args.n c.args.positions.now c.if-n-eq1.true some c.requires.rising
-    in (λ holds. subst (Begin (g.S.ShownTree.digests c.args.shown.now)) (sym e) refl, λ is. refl)
+    in (λ holds. subst (Begin (g.S.PartialTree.digests c.args.shown.now)) (sym e) refl, λ is. refl)
 
 pub returns-then-n-eq1-clause-left : goal.returns-then-n-eq1-clause-left
 returns-then-n-eq1-clause-left g t c holds =
@@ -67,7 +67,7 @@ returns-then-n-eq1-clause-left g t c holds =
     in let some : 0 < length c.args.positions.now = omega arith
     in let e : elided_part c.args.digests.now c.args.from c.args.n (shown_with [] c.args.positions.now) ≡ [] =
     kept-shown c.args.digests.now [] c.args.from c.args.n c.args.positions.now c.if-n-eq1.true some c.requires.rising
-    in ap (λ (xs : List (List ℕ)). drop (length xs) (g.S.ShownTree.digests c.args.shown.now)) (sym e)
+    in ap (λ (xs : List (List ℕ)). drop (length xs) (g.S.PartialTree.digests c.args.shown.now)) (sym e)
 
 -- what the left part requires
 pub begins_with_elided_part-requires : goal.begins_with_elided_part-requires
@@ -97,9 +97,9 @@ begins_with_elided_part-requires-2 g t c κs within =
     in let rises : RisesWithin (c.args.from + k) (c.args.from + k + (c.args.n - k)) c.split_at.result.1.now =
     rw (ends, c.split_at.ensures.back) (back-rises c.args.from (c.args.from + c.args.n) (c.args.from + k) c.count_below.result c.args.positions.now c.count_below.ensures.value c.requires.rising)
     in let part = right-nodes c.args.digests.now k c.args.n c.cut_of-k.ensures.below (c.requires.nodes, c.requires.sized)
-    in let theirs : All HasSize (g.S.ShownTree.digests c.begins_with_elided_part.new.shown) =
+    in let theirs : All HasSize (g.S.PartialTree.digests c.begins_with_elided_part.new.shown) =
     subst (All HasSize) (sym (c.begins_with_elided_part.ensures.left c.if-not-begins_with_elided_part.false))
-    (All-drop HasSize _ (g.S.ShownTree.digests c.args.shown.now) c.requires.theirs)
+    (All-drop HasSize _ (g.S.PartialTree.digests c.args.shown.now) c.requires.theirs)
     in let space : c.begins_with_elided_part.new.steps + (c.args.n - k) < 2 ^ 64 = omega (arith, c.begins_with_elided_part.ensures.cost, c.cut_of-k.ensures.below)
     in (omega arith, (within, (omega arith, (part.0, (part.1, (omega arith, (rises, (theirs, space))))))))
 
@@ -110,7 +110,7 @@ returns-clause-exact g t c =
     c.split_at.ensures.front c.split_at.ensures.back c.cut_of-k.ensures.power c.cut_of-k.ensures.below c.cut_of-k.ensures.largest
     (sym c.if-is_empty.ensures) c.requires.rising
     in let begins = c.if-not-begins_with_elided_part.false
-    in let same = parts-begin _ _ _ (g.S.ShownTree.digests c.args.shown.now) both _ (c.begins_with_elided_part.ensures.left begins) (c.begins_with_elided_part.ensures.exact.0 begins)
+    in let same = parts-begin _ _ _ (g.S.PartialTree.digests c.args.shown.now) both _ (c.begins_with_elided_part.ensures.left begins) (c.begins_with_elided_part.ensures.exact.0 begins)
     in (
       λ holds. same.0 (c.begins_with_elided_part-2.ensures.exact.0 holds),
       λ is. c.begins_with_elided_part-2.ensures.exact.1 (same.1 is),
@@ -121,5 +121,5 @@ returns-clause-left g t c holds =
     let both = kept-parts c.args.digests.now [] c.args.from c.cut_of-k.result c.args.n c.count_below.result c.args.positions.now _ _ c.count_below.ensures.value
     c.split_at.ensures.front c.split_at.ensures.back c.cut_of-k.ensures.power c.cut_of-k.ensures.below c.cut_of-k.ensures.largest
     (sym c.if-is_empty.ensures) c.requires.rising
-    in drop-parts _ _ _ (g.S.ShownTree.digests c.args.shown.now) both _ _
+    in drop-parts _ _ _ (g.S.PartialTree.digests c.args.shown.now) both _ _
     (c.begins_with_elided_part.ensures.left c.if-not-begins_with_elided_part.false) (c.begins_with_elided_part-2.ensures.left holds)

@@ -21,8 +21,8 @@ returns-clause-exact g c H leaves kept =
     in let digests : elided_kept c.args.digests.now c.args.positions.now ≡ elided_digests H leaves c.args.positions.now =
     ap (λ (ds : List (List ℕ)). elided_kept ds c.args.positions.now) kept ∙ kept-elided H leaves c.args.positions.now some
     in let Exact : List (List ℕ) → Type 0 = λ e.
-    (IsTrue c.begins_with_elided_part.result → take (length e) (g.S.ShownTree.digests c.args.shown.now) ≡ e)
-    × (take (length e) (g.S.ShownTree.digests c.args.shown.now) ≡ e → IsTrue c.begins_with_elided_part.result)
+    (IsTrue c.begins_with_elided_part.result → take (length e) (g.S.PartialTree.digests c.args.shown.now) ≡ e)
+    × (take (length e) (g.S.PartialTree.digests c.args.shown.now) ≡ e → IsTrue c.begins_with_elided_part.result)
     in subst Exact digests c.begins_with_elided_part.ensures.exact
 
 pub returns-clause-left : goal.returns-clause-left
@@ -32,9 +32,9 @@ returns-clause-left g c H leaves kept holds =
     in let digests : elided_kept c.args.digests.now c.args.positions.now ≡ elided_digests H leaves c.args.positions.now =
     ap (λ (ds : List (List ℕ)). elided_kept ds c.args.positions.now) kept ∙ kept-elided H leaves c.args.positions.now some
     in c.begins_with_elided_part.ensures.left holds
-    ∙ ap (λ (e : List (List ℕ)). drop (length e) (g.S.ShownTree.digests c.args.shown.now)) digests
+    ∙ ap (λ (e : List (List ℕ)). drop (length e) (g.S.PartialTree.digests c.args.shown.now)) digests
 
 pub returns-clause-rest : goal.returns-clause-rest
 returns-clause-rest g c holds =
     subst (All HasSize) (sym (c.begins_with_elided_part.ensures.left holds))
-    (All-drop HasSize (length (elided_kept c.args.digests.now c.args.positions.now)) (g.S.ShownTree.digests c.args.shown.now) c.requires.theirs)
+    (All-drop HasSize (length (elided_kept c.args.digests.now c.args.positions.now)) (g.S.PartialTree.digests c.args.shown.now) c.requires.theirs)

@@ -1,13 +1,13 @@
 use Rattle.std.proofs.Common.{◌<◌, ℕ, length, sym, subst, ◌∙◌}
-use Rattle.ats_bound.specs.Frontier.{Stage}
+use Rattle.ats_bound.specs.Cursors.{Stage}
 use Rattle.ats_bound.specs.Running.{Standing}
 use Rattle.ats_bound.specs.Schedule.{IsOpen}
-use Rattle.ats_bound.proofs.KnownSteps.{next_known, next_space, next_stage}
+use Rattle.ats_bound.proofs.MetSteps.{next_known, next_space, next_stage}
 use Rattle.ats_bound.proofs.running.Running.advance.Goals as goal
 
 pub meet-requires : goal.meet-requires
 meet-requires c =
-    let stage : Stage = c.self.inside.frontier in
+    let stage : Stage = c.self.inside.cursors in
     let i : ℕ = c.args.lane in
     let inside : i < length stage.lanes = subst (λ (s : Standing). i < length s.lanes) (sym c.self.view_is) c.requires.inside in
     let more : IsOpen stage.lanes stage.cut i = subst (λ (s : Standing). IsOpen s.lanes s.cut i) (sym c.self.view_is) c.requires.more in
@@ -16,7 +16,7 @@ meet-requires c =
 
 pub look-requires : goal.look-requires
 look-requires c =
-    let stage : Stage = c.self.inside.frontier in
+    let stage : Stage = c.self.inside.cursors in
     let i : ℕ = c.args.lane in
     let inside : i < length stage.lanes = subst (λ (s : Standing). i < length s.lanes) (sym c.self.view_is) c.requires.inside in
     let more : IsOpen stage.lanes stage.cut i = subst (λ (s : Standing). IsOpen s.lanes s.cut i) (sym c.self.view_is) c.requires.more in
@@ -25,7 +25,7 @@ look-requires c =
 
 pub invariant_of-self-2 : goal.invariant_of-self-2
 invariant_of-self-2 c =
-    let stage : Stage = c.self.inside.frontier in
+    let stage : Stage = c.self.inside.cursors in
     let i : ℕ = c.args.lane in
     let inside : i < length stage.lanes = subst (λ (s : Standing). i < length s.lanes) (sym c.self.view_is) c.requires.inside in
     let more : IsOpen stage.lanes stage.cut i = subst (λ (s : Standing). IsOpen s.lanes s.cut i) (sym c.self.view_is) c.requires.more in

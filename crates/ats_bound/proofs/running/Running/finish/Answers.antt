@@ -3,9 +3,9 @@ use Rattle.ats_bound.specs.declared.bracket.Bracket.{Bracket}
 use Rattle.ats_bound.specs.declared.walk.Walk.{Walk}
 use Rattle.ats_bound.specs.Chosen.{IsChosen}
 use Rattle.ats_bound.specs.Cut.{bracket}
-use Rattle.ats_bound.specs.Frontier.{Stage, shown_on}
+use Rattle.ats_bound.specs.Cursors.{Stage, shown_on}
 use Rattle.ats_bound.specs.Running.{Standing}
-use Rattle.ats_bound.specs.Stand.{IsStand}
+use Rattle.ats_bound.specs.Stopped.{IsStoppedAt}
 use Rattle.ats_bound.proofs.Chain.{chosen_are_picks, chosen_is_settled}
 use Rattle.ats_bound.proofs.One.{risen_are_distinct}
 use Rattle.ats_bound.proofs.RunningSettled.{proper_of}
@@ -16,12 +16,12 @@ choose-requires-clause-distinct c = rw c.as_slice.ensures (risen_are_distinct c.
 
 pub returns : goal.returns
 returns c =
-    let stage : Stage = c.self.inside.frontier in
+    let stage : Stage = c.self.inside.cursors in
     let brackets : List Bracket = c.in_ok-brackets.brackets in
     let picks : List ℕ = c.in_ok-picks.picks in
     let walk : Walk = record { cut = c.cut.result; brackets = brackets; picks = picks; threshold = c.threshold-threshold.result } in
     let chosen : IsChosen brackets c.self.inside.top picks = rw c.as_slice.ensures at c.in_ok-picks.ensures.chosen in
-    let stand : IsStand bracket stage.lanes c.self.inside.top stage.cut walk = record {
+    let stopped : IsStoppedAt bracket stage.lanes c.self.inside.top stage.cut walk = record {
       cut = c.cut.ensures;
       brackets = c.in_ok-brackets.ensures;
       threshold = c.threshold-threshold.ensures;
@@ -29,4 +29,4 @@ returns c =
       inside = chosen_are_picks brackets c.self.inside.top picks chosen;
       best = λ answer inside settled. chosen_is_settled brackets walk.threshold c.self.inside.top answer picks (proper_of (shown_on stage) brackets c.in_ok-brackets.ensures) inside settled chosen;
     } in
-    subst (λ (s : Standing). IsStand bracket s.lanes s.rows s.cut walk) c.self.view_is stand
+    subst (λ (s : Standing). IsStoppedAt bracket s.lanes s.rows s.cut walk) c.self.view_is stopped

@@ -6,7 +6,7 @@ use Rattle.std.specs.declared.result.Result.TheVariants.{Err, Ok}
 use Rattle.ats_bound.specs.declared.bracket.Bracket.{Bracket}
 use Rattle.ats_bound.specs.Chosen.{IsChosen}
 use Rattle.ats_bound.specs.Cut.{bracket, threshold}
-use Rattle.ats_bound.specs.Frontier.{Stage, shown_on}
+use Rattle.ats_bound.specs.Cursors.{Stage, shown_on}
 use Rattle.ats_bound.specs.QuickTest.{PassesQuickTest, TellsSettled}
 use Rattle.ats_bound.specs.Running.{Standing, shown_in}
 use Rattle.ats_bound.specs.Schedule.{AreBracketsOf}
@@ -17,18 +17,18 @@ use Rattle.ats_bound.proofs.running.Running.settled.Goals as goal
 
 pub returns-then-threshold-eq0-clause-told : goal.returns-then-threshold-eq0-clause-told
 returns-then-threshold-eq0-clause-told c =
-    subst (λ (s : Standing). TellsSettled bracket s.lanes s.rows s.cut true) c.self.view_is (tells_at_zero c.self.inside.frontier c.self.inside.top (sym c.threshold-threshold.ensures ∙ c.if-threshold-eq0.true))
+    subst (λ (s : Standing). TellsSettled bracket s.lanes s.rows s.cut true) c.self.view_is (tells_at_zero c.self.inside.cursors c.self.inside.top (sym c.threshold-threshold.ensures ∙ c.if-threshold-eq0.true))
 
 pub returns-then-threshold-score-clause-told : goal.returns-then-threshold-score-clause-told
 returns-then-threshold-score-clause-told c =
-    let stage : Stage = c.self.inside.frontier in
+    let stage : Stage = c.self.inside.cursors in
     let high : c.least-score.result < threshold (shown_on stage) = subst (λ (t : ℕ). c.least-score.result < t) c.threshold-threshold.ensures c.if-threshold-score.true in
     subst (λ (s : Standing). TellsSettled bracket s.lanes s.rows s.cut false) c.self.view_is
     (tells_no stage c.self.inside.top (none_where_high stage c.self.inside.top c.self.inside.known c.self.inside.best c.self.invariant c.least-score.result c.least-score.ensures high))
 
 pub returns-then-stands-clause-told : goal.returns-then-stands-clause-told
 returns-then-stands-clause-told c =
-    let stage : Stage = c.self.inside.frontier in
+    let stage : Stage = c.self.inside.cursors in
     subst (λ (s : Standing). TellsSettled bracket s.lanes s.rows s.cut false) c.self.view_is
     (tells_no stage c.self.inside.top (λ can.
     none_where_open stage c.self.inside.top c.self.inside.known c.self.inside.best c.self.invariant c.least-score.result c.least-score.ensures
@@ -47,7 +47,7 @@ passes stage standing rows is all =
 
 pub returns-in_err-brackets-clause-wanted : goal.returns-in_err-brackets-clause-wanted
 returns-in_err-brackets-clause-wanted c =
-    let stage : Stage = c.self.inside.frontier in
+    let stage : Stage = c.self.inside.cursors in
     let low : threshold (shown_on stage) ≤ c.least-score.result = subst (λ (t : ℕ). t ≤ c.least-score.result) c.threshold-threshold.ensures c.if-threshold-score.false in
     always c.from_residual.result
     (passes stage c.args.self.now c.self.inside.top c.self.view_is (λ brackets are.
@@ -59,7 +59,7 @@ choose-requires-clause-distinct c = rw c.as_slice.ensures (risen_are_distinct c.
 
 pub returns-in_err-picks-clause-wanted : goal.returns-in_err-picks-clause-wanted
 returns-in_err-picks-clause-wanted c =
-    let stage : Stage = c.self.inside.frontier in
+    let stage : Stage = c.self.inside.cursors in
     let low : threshold (shown_on stage) ≤ c.least-score.result = subst (λ (t : ℕ). t ≤ c.least-score.result) c.threshold-threshold.ensures c.if-threshold-score.false in
     always c.from_residual-in_err-picks.result
     (passes stage c.args.self.now c.self.inside.top c.self.view_is (λ brackets are.
@@ -71,7 +71,7 @@ settled-requires-clause-distinct c = rw c.as_slice-2.ensures (risen_are_distinct
 
 pub returns-clause-told : goal.returns-clause-told
 returns-clause-told c =
-    let stage : Stage = c.self.inside.frontier in
+    let stage : Stage = c.self.inside.cursors in
     let brackets : List Bracket = c.in_ok-brackets.brackets in
     let picks : List ℕ = c.in_ok-picks.picks in
     let chosen : IsChosen brackets c.self.inside.top picks = rw c.as_slice.ensures at c.in_ok-picks.ensures.chosen in

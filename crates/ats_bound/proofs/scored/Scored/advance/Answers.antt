@@ -2,7 +2,7 @@ use Rattle.std.proofs.Common.{◌≡◌, ◌<◌, ℕ, List, length, false, sym,
 use Rattle.std.specs.Option.{is_some}
 use Rattle.std.specs.List.{All}
 use Rattle.ats_bound.specs.declared.bracket.Bracket.{Bracket}
-use Rattle.ats_bound.specs.Frontier.{Stage, entry_on, shown_on}
+use Rattle.ats_bound.specs.Cursors.{Stage, entry_on, shown_on}
 use Rattle.ats_bound.specs.Schedule.{IsOpen, has_bracket}
 use Rattle.ats_bound.specs.Scored.{ScoredStanding, exactly}
 use Rattle.ats_bound.specs.Inner.Scored.{exact_brackets, score_in}
@@ -11,7 +11,7 @@ use Rattle.ats_bound.proofs.scored.Scored.advance.Goals as goal
 
 pub invariant_of-self-2 : goal.invariant_of-self-2
 invariant_of-self-2 c =
-    let before : Stage = c.self.inside.frontier in
+    let before : Stage = c.self.inside.cursors in
     let same : before ≡ c.args.self.now.stage = ap (λ (s : ScoredStanding). s.stage) c.self.view_is in
     let inside : c.args.lane < length before.lanes = subst (λ (s : Stage). c.args.lane < length s.lanes) (sym same) c.requires.inside in
     let more : IsOpen before.lanes before.cut c.args.lane = subst (λ (s : Stage). IsOpen s.lanes s.cut c.args.lane) (sym same) c.requires.more in
@@ -20,7 +20,7 @@ invariant_of-self-2 c =
 
 pub returns-clause-brackets : goal.returns-clause-brackets
 returns-clause-brackets c = λ given were one.
-    let before : Stage = c.self.inside.frontier in
+    let before : Stage = c.self.inside.cursors in
     let scores : List (ℕ × ℕ) = c.self.inside.scores.entries in
     let same : before ≡ c.args.self.now.stage = ap (λ (s : ScoredStanding). s.stage) c.self.view_is in
     let brackets : exact_brackets scores ≡ c.args.self.now.brackets = ap (λ (s : ScoredStanding). s.brackets) c.self.view_is in

@@ -11,7 +11,7 @@ pub choose-requires-clause-distinct : goal.choose-requires-clause-distinct
 choose-requires-clause-distinct c =
     let scores : List (ℕ × ℕ) = c.self.inside.scores.entries in
     let is : c.as_slice.result.now ≡ exact_brackets scores = c.as_slice.ensures ∙ c.in_ok-brackets.ensures in
-    subst HaveDistinctDocs (sym is) (risen_are_distinct (exact_brackets scores) (scored_rise c.self.inside.frontier c.self.inside.top scores c.self.inside.best c.self.invariant))
+    subst HaveDistinctDocs (sym is) (risen_are_distinct (exact_brackets scores) (scored_rise c.self.inside.cursors c.self.inside.top scores c.self.inside.best c.self.invariant))
 
 pub choose-requires-clause-proper : goal.choose-requires-clause-proper
 choose-requires-clause-proper c =

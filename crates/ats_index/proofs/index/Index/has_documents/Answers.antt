@@ -18,8 +18,8 @@ pub returns : goal.returns
 returns g c =
     let H : List ℕ → List ℕ = g.H.HashKind.hash in
     let Told : List (List ℕ) → Type 0 = λ leaves.
-    (IsTrue c.has_shown.result → IsOwnShown H leaves c.args.n (g.S.ShownTree.shown c.args.shown.now) (g.S.ShownTree.digests c.args.shown.now))
-    × (IsOwnShown H leaves c.args.n (g.S.ShownTree.shown c.args.shown.now) (g.S.ShownTree.digests c.args.shown.now) → IsTrue c.has_shown.result) in
+    (IsTrue c.has_shown.result → IsOwnShown H leaves c.args.n (g.S.PartialTree.shown c.args.shown.now) (g.S.PartialTree.digests c.args.shown.now))
+    × (IsOwnShown H leaves c.args.n (g.S.PartialTree.shown c.args.shown.now) (g.S.PartialTree.digests c.args.shown.now) → IsTrue c.has_shown.result) in
     subst Told
     (ap (λ (leaves : List DocLeaf). map leaf_of leaves) c.doc_leaves.ensures.leaves ∙ leaves_are_documents H c.args.self.now.texts)
     c.has_shown.ensures.exact

@@ -20,8 +20,8 @@ returns-in-Some g c =
     let entries = rw c.lists-lists.ensures at (c.list.ensures.value ([], [])) in
     let own = kept_own H archive.format _ c.list.result.now c.list_digests.result.now (c.list_digests.ensures ([], [])) entries in
     let Told : Format → List Entry → Type 0 = λ format all.
-    (IsTrue c.list_has_shown.result → IsOwnListShown H format all c.args.n (g.S.ShownTree.shown c.args.shown.now) (g.S.ShownTree.digests c.args.shown.now))
-    × (IsOwnListShown H format all c.args.n (g.S.ShownTree.shown c.args.shown.now) (g.S.ShownTree.digests c.args.shown.now) → IsTrue c.list_has_shown.result) in
+    (IsTrue c.list_has_shown.result → IsOwnListShown H format all c.args.n (g.S.PartialTree.shown c.args.shown.now) (g.S.PartialTree.digests c.args.shown.now))
+    × (IsOwnListShown H format all c.args.n (g.S.PartialTree.shown c.args.shown.now) (g.S.PartialTree.digests c.args.shown.now) → IsTrue c.list_has_shown.result) in
     subst (λ (format : Format). Told format (list archive.texts c.args.term.now)) own.0
     (subst (λ (all : List Entry). Told (format_of c.list_digests.result.now) all) (entries_found H archive c.args.term.now c.in-Some.i c.list.result.now found.0 found.1 entries) c.list_has_shown.ensures)
 

@@ -20,7 +20,7 @@ begins_with_elided-requires-clause-below g c =
 
 pub returns-clause-exact : goal.returns-clause-exact
 returns-clause-exact g c H leaves same =
-    let ds : List (List ℕ) = g.S.ShownTree.digests c.args.shown.now
+    let ds : List (List ℕ) = g.S.PartialTree.digests c.args.shown.now
     in let e : List ℕ → List (List ℕ) = λ ps. elided_digests H (block leaves c.args.j) ps
     in let Exact : List ℕ → Type 0 = λ ps.
     (IsTrue c.begins_with_elided.result → take (length (e ps)) ds ≡ e ps) × (take (length (e ps)) ds ≡ e ps → IsTrue c.begins_with_elided.result)
@@ -30,5 +30,5 @@ returns-clause-exact g c H leaves same =
 pub returns-clause-left : goal.returns-clause-left
 returns-clause-left g c H leaves same holds =
     c.begins_with_elided.ensures.left H (block leaves c.args.j) (c.nodes.ensures.value H leaves same) holds
-    ∙ ap (λ (ps : List ℕ). drop (length (elided_digests H (block leaves c.args.j) ps)) (g.S.ShownTree.digests c.args.shown.now))
+    ∙ ap (λ (ps : List ℕ). drop (length (elided_digests H (block leaves c.args.j) ps)) (g.S.PartialTree.digests c.args.shown.now))
     (first-range c.first_positions-all.result c.args.count c.first_positions-all.ensures (omega (arith, c.requires.within)))

@@ -20,7 +20,7 @@ no holds = absurd (cc)
 pub returns-then-not-begins_with_nodes : goal.returns-then-not-begins_with_nodes
 returns-then-not-begins_with_nodes g c H leaves same =
     let b : ℕ = c.div_ceil-blocks.result
-    in let ds : List (List ℕ) = g.S.ShownTree.digests c.args.shown.now
+    in let ds : List (List ℕ) = g.S.PartialTree.digests c.args.shown.now
     in let count : b ≡ blocks_in c.args.k = omega (arith, c.div_ceil-blocks.ensures)
     in let whole : tree H leaves c.args.k b ++ next H leaves b ≡ chain_elided H leaves c.args.k =
     ap (λ (n : ℕ). tree H leaves c.args.k n ++ next H leaves n) count
@@ -35,12 +35,12 @@ pub returns : goal.returns
 returns g c H leaves same =
     let b : ℕ = c.div_ceil-blocks.result
     in let e : List (List ℕ) = tree H leaves c.args.k b
-    in let ds : List (List ℕ) = g.S.ShownTree.digests c.args.shown.now
+    in let ds : List (List ℕ) = g.S.PartialTree.digests c.args.shown.now
     in let count : b ≡ blocks_in c.args.k = omega (arith, c.div_ceil-blocks.ensures)
     in let whole : e ++ next H leaves b ≡ chain_elided H leaves c.args.k =
     ap (λ (n : ℕ). tree H leaves c.args.k n ++ next H leaves n) count
     in let begins = c.if-not-begins_with_nodes.false
-    in let left : g.S.ShownTree.digests c.begins_with_nodes.new.shown ≡ drop (length e) ds = c.begins_with_nodes.ensures.left H leaves same begins
+    in let left : g.S.PartialTree.digests c.begins_with_nodes.new.shown ≡ drop (length e) ds = c.begins_with_nodes.ensures.left H leaves same begins
     in let front : take (length e) ds ≡ e = (c.begins_with_nodes.ensures.exact H leaves same).0 begins
     in let link = c.is_link.ensures H leaves same
     in (

@@ -10,8 +10,8 @@ next H leaves j = if nat_lt (64 * j) (length leaves) then chain_from H leaves j 
 pub returns-then-eq : goal.returns-then-eq
 returns-then-eq g c H leaves same =
     let run : List (List ℕ) = c.self.inside.digests.items
-    in let ds : List (List ℕ) = g.S.ShownTree.digests c.args.shown.now
-    in let after : List (List ℕ) = g.S.ShownTree.digests c.take_digest-2.new.self
+    in let ds : List (List ℕ) = g.S.PartialTree.digests c.args.shown.now
+    in let after : List (List ℕ) = g.S.PartialTree.digests c.take_digest-2.new.self
     in let theirs : List ℕ = c.in-Some.theirs
     in let inside : 128 * c.args.j < length run = omega (arith, c.if-at-len.false, c.len.ensures)
     in let own : next H leaves c.args.j ≡ c.index.result.now ∷ [] =
@@ -37,5 +37,5 @@ returns-else-eq g c H leaves same =
       λ holds. let clash : true ≡ false = sym holds ∙ c.if-eq.false in absurd (cc),
       λ is. c.eq.ensures
           ∙ (bytes_eq-Decides theirs c.index.result.now).1
-          (left-one (g.S.ShownTree.digests c.args.shown.now) theirs c.index.result.now c.in-Some.ensures.first (is ∙ own)).0,
+          (left-one (g.S.PartialTree.digests c.args.shown.now) theirs c.index.result.now c.in-Some.ensures.first (is ∙ own)).0,
     )

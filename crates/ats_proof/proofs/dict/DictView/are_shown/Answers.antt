@@ -5,4 +5,4 @@ pub returns : goal.returns
 returns c =
     let view = c.args.self.now in
     let run = view.leaves in
-    rw view.behind (entries_bytes run.left run.bytes.now (rw view.behind at run.fits) c.are_bytes.ensures)
+    rw view.after_term (entries_bytes run.left run.bytes.now (rw view.after_term at run.fits) c.are_bytes.ensures)

@@ -9,11 +9,11 @@ pub invariant_of-self : goal.invariant_of-self
 invariant_of-self c =
     let run = c.args.self.now in
     record {
-      fits = rw c.first-first.ensures.rest (rest_fits (leaf_size run.behind) run.left run.bytes.now c.requires.left run.fits);
-      rises = rw c.first-first.ensures.rest (rest_rises run.behind run.left run.bytes.now c.requires.left run.rises);
+      fits = rw c.first-first.ensures.rest (rest_fits (leaf_size run.after_term) run.left run.bytes.now c.requires.left run.fits);
+      rises = rw c.first-first.ensures.rest (rest_rises run.after_term run.left run.bytes.now c.requires.left run.rises);
     }
 
 pub returns-clause-passed : goal.returns-clause-passed
 returns-clause-passed c =
     let run = c.args.self.now in
-    rw (c.first-first.ensures.rest, parts_more (leaf_size run.behind) (leaf_in run.behind) run.left run.bytes.now c.requires.left) refl
+    rw (c.first-first.ensures.rest, parts_more (leaf_size run.after_term) (leaf_in run.after_term) run.left run.bytes.now c.requires.left) refl

@@ -6,4 +6,4 @@ pub returns-clause-terms : goal.returns-clause-terms
 returns-clause-terms c =
     let view = c.args.self.now in
     let run = view.leaves in
-    parts_passed term_size term_in run.left c.pass.new.self.left run.bytes.now c.pass.new.self.bytes.now c.pass.ensures.count (rw view.behind at c.pass.ensures.rest)
+    parts_passed term_size term_in run.left c.pass.new.self.left run.bytes.now c.pass.new.self.bytes.now c.pass.ensures.count (rw view.after_term at c.pass.ensures.rest)

@@ -40,7 +40,7 @@ begins_with_part-requires-clause-within g c =
     in omega (arith, number, c.if-len-n.false)
 
 pub begins_with_part-requires-clause-rising : goal.begins_with_part-requires-clause-rising
-begins_with_part-requires-clause-rising g c = rises-increasing _ c.position-first.ensures.rising
+begins_with_part-requires-clause-rising g c = rises-increasing _ c.position-facts.ensures.rising
 
 -- other leaves or digests
 pub returns-then-not-begins_with_part-clause-exact : goal.returns-then-not-begins_with_part-clause-exact
@@ -58,8 +58,8 @@ returns-then-not-begins_with_part-clause-exact g c =
 pub returns-then-is_none-clause-exact : goal.returns-then-is_none-clause-exact
 returns-then-is_none-clause-exact g c =
     let leaves : List (List ℕ) = g.L.Leaves.items c.args.leaves.now
-    in let shown : List Shown = g.S.ShownTree.shown c.args.shown.now
-    in let digests : List (List ℕ) = g.S.ShownTree.digests c.args.shown.now
+    in let shown : List Shown = g.S.PartialTree.shown c.args.shown.now
+    in let digests : List (List ℕ) = g.S.PartialTree.digests c.args.shown.now
     in let kept : c.as_slice.result.now ≡ kept_digests g.H.HashKind.hash leaves = c.as_slice.ensures.value ∙ c.self.view_is ∙ c.requires.kept
     in let counted = kept-number g.H.HashKind.hash leaves c.self.inside.digests.items _ _ c.self.invariant.odd c.self.view_is c.len.ensures c.requires.kept
     in let begins = c.if-not-begins_with_part.false
@@ -79,8 +79,8 @@ returns-then-is_none-clause-exact g c =
 pub returns-else-is_none-clause-exact : goal.returns-else-is_none-clause-exact
 returns-else-is_none-clause-exact g c =
     let leaves : List (List ℕ) = g.L.Leaves.items c.args.leaves.now
-    in let shown : List Shown = g.S.ShownTree.shown c.args.shown.now
-    in let digests : List (List ℕ) = g.S.ShownTree.digests c.args.shown.now
+    in let shown : List Shown = g.S.PartialTree.shown c.args.shown.now
+    in let digests : List (List ℕ) = g.S.PartialTree.digests c.args.shown.now
     in let kept : c.as_slice.result.now ≡ kept_digests g.H.HashKind.hash leaves = c.as_slice.ensures.value ∙ c.self.view_is ∙ c.requires.kept
     in let counted = kept-number g.H.HashKind.hash leaves c.self.inside.digests.items _ _ c.self.invariant.odd c.self.view_is c.len.ensures c.requires.kept
     in (

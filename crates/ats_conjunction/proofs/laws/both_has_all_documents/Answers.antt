@@ -1,8 +1,0 @@
-use Rattle.ats_conjunction.proofs.Meaning.{has_documents, rises}
-use Rattle.ats_conjunction.proofs.laws.both_has_all_documents.Goals as goal
-
-pub returns : goal.returns
-returns c = record {
-  has = has_documents;
-  rise = rises;
-}

@@ -1,6 +1,0 @@
-use Rattle.ats_consistency.proofs.InRange.{growth_range}
-use Rattle.ats_consistency.proofs.OneGrowth.{one_growth, one_join}
-use Rattle.ats_consistency.proofs.laws.bytes_say_one_growth.Goals as goal
-
-pub returns : goal.returns
-returns c = record { one = one_growth; range = growth_range; spelling = one_join }

@@ -1,7 +1,0 @@
-use Rattle.std.specs.List.{concat}
-use Rattle.ats_consistency.specs.Value.{fields_of}
-use Rattle.ats_consistency.proofs.Spelled.{spells}
-use Rattle.ats_consistency.proofs.laws.growths_in_range_are_spelled.Goals as goal
-
-pub returns : goal.returns
-returns c g range = (concat (fields_of g), spells g range)

@@ -1,5 +1,0 @@
-use Rattle.ats_consistency.proofs.RangeLaws.{ranges_all, ranges_left, ranges_right, ranges_documents}
-use Rattle.ats_consistency.proofs.laws.ranges_are_old_documents.Goals as goal
-
-pub returns : goal.returns
-returns c = record { documents = ranges_documents; all = ranges_all; left = ranges_left; right = ranges_right }

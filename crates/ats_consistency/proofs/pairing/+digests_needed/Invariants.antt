@@ -1,4 +1,0 @@
-use Rattle.ats_consistency.proofs.pairing.+digests_needed.Given as goal
-
-abbrev pub decreases-digests_needed : goal.decreases-digests_needed
-decreases-digests_needed l = l.n

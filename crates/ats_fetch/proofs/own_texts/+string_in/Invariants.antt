@@ -1,4 +1,0 @@
-use Rattle.ats_fetch.proofs.own_texts.+string_in.Given as goal
-
-abbrev pub decreases-string_in : goal.decreases-string_in
-decreases-string_in g l = l.n

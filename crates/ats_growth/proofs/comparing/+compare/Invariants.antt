@@ -1,4 +1,0 @@
-use Rattle.ats_growth.proofs.comparing.+compare.Given as goal
-
-abbrev pub decreases-compare : goal.decreases-compare
-decreases-compare g l = l.n

@@ -1,5 +1,0 @@
-use Rattle.ats_growth.proofs.Verdicts.{told}
-use Rattle.ats_growth.proofs.laws.accepted_growths_are_audited.Goals as goal
-
-pub returns : goal.returns
-returns g c old new bytes growth accepted = told g.H.HashKind.hash g.H.HashKind.sized old new bytes growth accepted.says accepted.accepts

@@ -1,4 +1,0 @@
-use Rattle.ats_growth.proofs.ranges.+compare_range.Given as goal
-
-abbrev pub decreases-compare_range : goal.decreases-compare_range
-decreases-compare_range g l = l.n

@@ -1,5 +1,0 @@
-use Rattle.ats_inclusion.proofs.Fields.{one_text, one_join, in_range}
-use Rattle.ats_inclusion.proofs.laws.bytes_say_one_text.Goals as goal
-
-pub returns : goal.returns
-returns c = record { one = one_text; range = in_range; spelling = one_join }

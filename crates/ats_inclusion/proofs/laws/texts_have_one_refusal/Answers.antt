@@ -1,5 +1,0 @@
-use Rattle.ats_inclusion.proofs.Refusals.{one_refusal, not_refused}
-use Rattle.ats_inclusion.proofs.laws.texts_have_one_refusal.Goals as goal
-
-pub returns : goal.returns
-returns g c = record { one = one_refusal g.H.HashKind.hash; none = not_refused g.H.HashKind.hash }

@@ -1,7 +1,0 @@
-use Rattle.std.proofs.Common.{◌∙◌, ap}
-use Rattle.ats_inclusion.specs.Value.{TextProof}
-use Rattle.ats_inclusion.proofs.Fields.{lent_from}
-use Rattle.ats_inclusion.proofs.view.TextView.text.Goals as goal
-
-pub returns-clause-lent : goal.returns-clause-lent
-returns-clause-lent c bytes is = ap (λ (p : TextProof). p.text) c.self.view_is ∙ lent_from bytes c.args.self.now is

@@ -1,5 +1,0 @@
-use Rattle.ats_proof.proofs.Taking.{digests-sized}
-use Rattle.ats_proof.proofs.digests.DigestRun.are_sized.Goals as goal
-
-pub returns : goal.returns
-returns c = digests-sized c.args.self.now.left c.args.self.now.bytes.now c.args.self.now.fits

@@ -1,6 +1,0 @@
-use Rattle.std.proofs.Common.{sym}
-use Rattle.ats_shards.proofs.Joined.{shards-counted}
-use Rattle.ats_shards.proofs.cursor.ShardCursor.len.Goals as goal
-
-pub returns : goal.returns
-returns c = sym (shards-counted c.args.self.now.roots.now c.args.self.now.proofs.now)

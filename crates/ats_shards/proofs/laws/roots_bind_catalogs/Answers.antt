@@ -1,5 +1,0 @@
-use Rattle.ats_shards.proofs.Roots.{roots_bound}
-use Rattle.ats_shards.proofs.laws.roots_bind_catalogs.Goals as goal
-
-pub returns : goal.returns
-returns g c = roots_bound g.H.HashKind.hash g.H.HashKind.sized
