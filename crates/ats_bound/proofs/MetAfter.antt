@@ -7,6 +7,7 @@ use Rattle.std.proofs.lemmas.List.Folds.{list_any-append, list_any_at, list_any_
 use Rattle.std.proofs.Math.Seq.{get_or-append_seam, map-set_same}
 use Rattle.ats_bound.specs.declared.met_documents.Met.{Met}
 use Rattle.ats_bound.specs.Cut.{ShownLane, lo_of, names}
+use Rattle.ats_bound.specs.Schedule.{most_gain}
 use Rattle.ats_bound.specs.Inner.Cursors.{named_by}
 use Rattle.ats_bound.specs.Inner.MetDocuments.{AreMetDocuments, IsKnown, IsUnmet, Meets, met_at, more_of}
 use Rattle.ats_bound.proofs.Entered.{Enters, none_named, or_none}
@@ -29,7 +30,7 @@ same_docs q (x ∷ xs) (y ∷ ys) same =
     ap (λ d. nat_eq d q || list_any (has_doc q) xs) first ∙ ap (λ b. nat_eq y.doc q || b) (same_docs q xs ys rest)
 
 module _ (all after : List ShownLane) (met : List Met) (doc gain digit : ℕ) (known : AreMetDocuments all met) (enters : Enters all after doc gain digit)
-    (little : gain ≤ 34935 * 65535) (some : 1 ≤ digit) where
+    (little : gain ≤ most_gain) (some : 1 ≤ digit) where
   -- nothing more is known of another document
   unchanged : (m : Met) → m.doc ≢ doc → IsKnown all m → IsKnown after m
   unchanged m differ is =

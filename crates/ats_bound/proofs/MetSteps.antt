@@ -11,7 +11,7 @@ use Rattle.ats_bound.specs.Cut.{ShownLane, names}
 use Rattle.ats_bound.specs.Cursors.{IsStage, Stage, entry_on, lane_on, shown_on}
 use Rattle.ats_bound.specs.Inner.Cursors.{named_by}
 use Rattle.ats_bound.specs.Inner.MetDocuments.{AreMetDocuments, IsKnown, Meets, met_at}
-use Rattle.ats_bound.specs.Schedule.{AreWholeLanes, IsOpen, IsWholeLane, WholeLane, first_cut, shown, whole_lane, whole_lanes}
+use Rattle.ats_bound.specs.Schedule.{AreWholeLanes, IsOpen, IsWholeLane, WholeLane, first_cut, shown, whole_lane, whole_lanes, most_gain}
 use Rattle.ats_bound.proofs.Entered.{Enters, entered}
 use Rattle.ats_bound.proofs.MetAfter.{known_after}
 use Rattle.ats_bound.proofs.Shown.{cut_after, length-shown, no_lane}
@@ -32,7 +32,7 @@ module _ (lanes : List WholeLane) (cut : List ℕ) (i : ℕ) (few : length lanes
     (size : length cut ≡ length lanes) (space : get_or cut i 0 < length (lane_on (record { lanes = lanes; cut = cut }) i).entries)
     (met : List Met) (known : AreMetDocuments (shown lanes cut) met) (doc gain digit : ℕ) (doc_is : doc ≡ (entry_on (record { lanes = lanes; cut = cut }) i).doc)
     (gain_is : gain ≡ (lane_on (record { lanes = lanes; cut = cut }) i).coefficient * (entry_on (record { lanes = lanes; cut = cut }) i).impact)
-    (little : gain ≤ 34935 * 65535) (digit_is : digit ≡ 2 ^ i) where
+    (little : gain ≤ most_gain) (digit_is : digit ≡ 2 ^ i) where
   abbrev after : List ShownLane
   after = shown lanes (set cut i (get_or cut i 0 + 1))
 
@@ -96,7 +96,7 @@ module _ (lanes : List Lane) (i : ℕ) (whole : AreWholeLanes (whole_lanes lanes
     (known : AreMetDocuments (shown (whole_lanes lanes) (begun_cut (whole_lanes lanes) i)) met) (doc gain digit : ℕ)
     (doc_is : doc ≡ (get_or (get_or lanes i no_lane).entries.now 0 (record { doc = 0; impact = 0 })).doc)
     (gain_is : gain ≡ (get_or lanes i no_lane).coefficient * (get_or (get_or lanes i no_lane).entries.now 0 (record { doc = 0; impact = 0 })).impact)
-    (little : gain ≤ 34935 * 65535) (digit_is : digit ≡ 2 ^ i) where
+    (little : gain ≤ most_gain) (digit_is : digit ≡ 2 ^ i) where
   abbrev wholes : List WholeLane
   wholes = whole_lanes lanes
 
@@ -142,7 +142,7 @@ module _ (lanes : List Lane) (i : ℕ) (whole : AreWholeLanes (whole_lanes lanes
 -- ---- one entry more
 
 module _ (stage : Stage) (i : ℕ) (is : IsStage stage) (inside : i < length stage.lanes) (more : IsOpen stage.lanes stage.cut i) (met : List Met) (known : AreMetDocuments (shown_on stage) met)
-    (doc gain digit : ℕ) (doc_is : doc ≡ (entry_on stage i).doc) (gain_is : gain ≡ (lane_on stage i).coefficient * (entry_on stage i).impact) (little : gain ≤ 34935 * 65535)
+    (doc gain digit : ℕ) (doc_is : doc ≡ (entry_on stage i).doc) (gain_is : gain ≡ (lane_on stage i).coefficient * (entry_on stage i).impact) (little : gain ≤ most_gain)
     (digit_is : digit ≡ 2 ^ i) where
   pub next_space : (slot : ℕ) → slot < length met → (met_at met slot).doc ≡ doc → ((met_at met slot).lo + gain < 2 ^ 64) × ((met_at met slot).named + digit < 2 ^ 32)
   next_space = step_space stage.lanes stage.cut i is.whole.few (whole_on stage i is inside) inside is.cut.size (next_inside stage i is inside more) met known doc gain digit doc_is gain_is little digit_is

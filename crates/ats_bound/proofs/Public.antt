@@ -10,6 +10,8 @@ pub use Rattle.ats_bound.proofs.Places.{few_places}
 pub use Rattle.ats_bound.proofs.Places.{position_of}
 -- the number at a position of a list occurs in the list at least once
 pub use Rattle.ats_bound.proofs.Places.{stands}
+-- a number that stands twice in a list occurs at least twice
+pub use Rattle.ats_bound.proofs.Places.{stands_twice}
 -- a number put before a list adds one to its own occurrences and none to those of others
 pub use Rattle.ats_bound.proofs.Places.{times-cons}
 -- a number put before a list leaves the occurrences of a different number as they were
@@ -34,6 +36,8 @@ pub use Rattle.ats_bound.proofs.Lanes.{share}
 pub use Rattle.ats_bound.proofs.Scores.{bracket_holds}
 -- the rests of the lanes that name a document and of those that do not add up to the threshold
 pub use Rattle.ats_bound.proofs.Scores.{held_or_missing}
+-- a document that no entry names scores at most the threshold, and a met one is one of the texts
+pub use Rattle.ats_bound.proofs.Scores.{unmet_scores, met_below}
 -- the lanes that do not name a document can add at most the threshold to its score
 pub use Rattle.ats_bound.proofs.Scores.{missing_within}
 -- a settled answer over brackets that contain the scores of the met documents is a top answer

@@ -1,6 +1,6 @@
 -- The schedule of a walk: the cuts of whole lists, one after another, and the first at which an answer is settled. A
 -- profile of the threshold algorithms of Pang and Mouratidis, VLDB 2008.
-use Rattle.std.specs.Prelude.{◌≡◌, ◌≢◌, ◌<◌, ◌≤◌, ◌+◌, ◌==◌, ℕ, zero, suc, List, [], ◌∷◌, length, map, set, slice_index, slice_index_or, Bool}
+use Rattle.std.specs.Prelude.{◌≡◌, ◌≢◌, ◌<◌, ◌≤◌, ◌+◌, ◌*◌, ◌==◌, ℕ, zero, suc, List, [], ◌∷◌, length, map, set, slice_index, slice_index_or, Bool}
 use Rattle.std.specs.List.{All, list_any}
 use Rattle.ats_postings.specs.declared.entry.Entry.{Entry}
 use Rattle.ats_bound.specs.declared.bracket.Bracket.{Bracket}
@@ -13,9 +13,16 @@ pub record WholeLane : Type 0 where
   pub coefficient : ℕ
   pub entries : List Entry
 
+-- the greatest coefficient of a term, and the most that one entry of its list adds to a score
+abbrev pub most_coefficient : ℕ
+most_coefficient = 34935
+
+abbrev pub most_gain : ℕ
+most_gain = most_coefficient * 65535
+
 -- a list of 1 to 65,536 entries of distinct documents, with impacts of at least 1 that never rise
 pub record IsWholeLane (lane : WholeLane) : Type 0 where
-  pub weighted : (1 ≤ lane.coefficient) × (lane.coefficient ≤ 34935)
+  pub weighted : (1 ≤ lane.coefficient) × (lane.coefficient ≤ most_coefficient)
   pub some : 1 ≤ length lane.entries
   pub few : length lane.entries ≤ 65536
   pub impacts : All (λ (entry : Entry). 1 ≤ entry.impact) lane.entries

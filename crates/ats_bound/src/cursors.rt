@@ -4,7 +4,7 @@ ghost use Rattle.std.specs.Prelude.{◌≡◌, ◌↔◌, ◌<◌, ◌≤◌, �
 ghost use Rattle.ats_bound.specs.Cut.{missing, rest, threshold};
 ghost use Rattle.ats_bound.specs.Cursors.{IsStage, entry_on, lane_on, shown_on};
 ghost use Rattle.ats_bound.specs.Inner.Cursors.{named_by};
-ghost use Rattle.ats_bound.specs.Schedule.{AreAllShown, AreWholeLanes, IsCut, IsNextLane, IsOpen, first_cut, shown, whole_lanes};
+ghost use Rattle.ats_bound.specs.Schedule.{AreAllShown, AreWholeLanes, IsCut, IsNextLane, IsOpen, first_cut, shown, whole_lanes, most_gain};
 
 use crate::cut::Cut;
 use crate::lane::Lane;
@@ -110,7 +110,7 @@ impl<'a> Cursors<'a> {
         requires more { IsOpen self.now.lanes self.now.cut lane }
         ensures doc { result.doc ≡ (entry_on self.now lane).doc }
         ensures gain { result.gain ≡ (lane_on self.now lane).coefficient * (entry_on self.now lane).impact }
-        ensures few { result.gain ≤ 34935 * 65535 }
+        ensures few { result.gain ≤ most_gain }
     {
         let list = self.lanes[lane as usize];
         let entry = list.entries[self.counts[lane as usize] as usize];

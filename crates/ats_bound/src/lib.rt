@@ -4,7 +4,7 @@
 //! names by a bracket, and that of every other document by a threshold. An answer is settled if these bounds alone
 //! prove it right.
 //!
-//! The room stands on the entries of `ats_lists`, the number of rows of `ats_impact` and the steps of `ats_hash`. A
+//! The room stands on the entries of `ats_postings`, the number of rows of `ats_impact` and the steps of `ats_hash`. A
 //! walk shows more of the lists, turn by turn, until an answer is settled: [`Running`] bounds scores by the shown
 //! entries only, [`Scored`] is given the scores. [`settled`] returns exactly whether the rules of a settled answer
 //! hold, and if any answer is settled, the one from [`choose`] is. Each walk of whole lists takes the turns of one

@@ -5,7 +5,7 @@ ghost use Rattle.ats_bound.specs.declared.bracket.Bracket.{Bracket as Bounded};
 ghost use Rattle.ats_bound.specs.Inner.Best.{AreBest};
 ghost use Rattle.ats_bound.specs.Cut.{bracket, threshold};
 ghost use Rattle.ats_bound.specs.Inner.MetDocuments.{AreMetDocuments, Meets, lows, met_at};
-ghost use Rattle.ats_bound.specs.Schedule.{AreAllShown, AreBracketsOf, AreWholeLanes, IsNextLane, IsOpen, IsWholeLane, first_cut, shown, whole_lane, whole_lanes};
+ghost use Rattle.ats_bound.specs.Schedule.{AreAllShown, AreBracketsOf, AreWholeLanes, IsNextLane, IsOpen, IsWholeLane, first_cut, shown, whole_lane, whole_lanes, most_gain};
 ghost use Rattle.ats_bound.specs.Running.{shown_in};
 ghost use Rattle.ats_bound.specs.QuickTest.{PassesQuickTest, TellsSettled};
 ghost use Rattle.ats_bound.specs.Stopped.{IsStoppedAt};
@@ -64,7 +64,7 @@ fn first_gain(lane: &Lane<'_>) -> Gain
     ensures doc { result.doc ≡ (slice_index_or lane.now.entries.now 0 record { doc = 0; impact = 0 }).doc }
     ensures gain { result.gain
         ≡ lane.now.coefficient * (slice_index_or lane.now.entries.now 0 record { doc = 0; impact = 0 }).impact }
-    ensures few { result.gain ≤ 34935 * 65535 }
+    ensures few { result.gain ≤ most_gain }
 {
     let entry = lane.entries[0];
     Gain {

@@ -17,7 +17,7 @@ use Rattle.ats_tree.proofs.Public.{collision-moved, moved_collision, numbers-bac
 use Rattle.ats_catalog_bytes.specs.Strings.{RootsPlace, in_roots, roots_string, tree_strings}
 use Rattle.ats_catalog_bytes.specs.Value.{Framed, IsFrame, shown_roots}
 use Rattle.ats_catalog_audit.specs.Inner.Clashes.{difference_in}
-use Rattle.ats_catalog_audit.proofs.AllShown.{all_shown, positions_rise, leaf_is, shown_many}
+use Rattle.ats_catalog_bytes.proofs.Public.{all_shown, positions_rise, leaf_is, shown_many}
 
 -- ---- the roots that are left
 

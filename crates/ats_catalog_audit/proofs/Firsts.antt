@@ -7,23 +7,11 @@ use Rattle.ats_base.specs.Rules.{Group, AllHold}
 use Rattle.ats_tree.specs.Differences.{Difference}
 use Rattle.ats_commit.specs.Archive.{Archive}
 use Rattle.ats_proof.specs.Value.{Proof}
-use Rattle.ats_proof.proofs.Public.{one_value}
 use Rattle.ats_refusal.specs.declared.catalog.CatalogRefusal.{CatalogRefusal}
 use Rattle.ats_client.specs.Strings.{proof_collision}
 use Rattle.ats_catalog_bytes.specs.Value.{Framed}
-use Rattle.ats_catalog_check.specs.Accepts.{AreProofs, IsShardRight, shard_rules, AcceptsCatalog}
+use Rattle.ats_catalog_check.specs.Accepts.{IsShardRight, shard_rules, AcceptsCatalog}
 use Rattle.ats_catalog_check.specs.Strings.{CatalogPlace, in_proof, difference_at, proofs_collision}
-
--- ---- the proofs that bytes spell
-
-pub one_proofs : (shards : List Framed) (a b : List Proof) → AreProofs shards a → AreProofs shards b → a ≡ b
-one_proofs [] [] [] is also = refl
-one_proofs [] (p ∷ a) b is also = absurd is
-one_proofs [] [] (q ∷ b) is also = absurd also
-one_proofs (one ∷ shards) [] b is also = absurd is
-one_proofs (one ∷ shards) (p ∷ a) [] is also = absurd also
-one_proofs (one ∷ shards) (p ∷ a) (q ∷ b) is also =
-    ap (λ (x : Proof). x ∷ a) (one_value one.bytes p q is.0 also.0) ∙ ap (λ (l : List Proof). q ∷ l) (one_proofs shards a b is.1 also.1)
 
 -- each shard's proof keeps its rules
 pub all_right : (H : List ℕ → List ℕ) (root : List ℕ) (query : List (List ℕ × ℕ)) (r : ℕ) (shards : List Framed) → AcceptsCatalog H root query r shards → All (IsShardRight H query) shards

@@ -1,5 +1,4 @@
 pub mod Public
-mod AllShown
 mod Clashing
 mod Firsts
 mod AuditState

@@ -15,11 +15,10 @@ use Rattle.ats_catalog_check.specs.Accepts.{AreProofs, AcceptsCatalog}
 use Rattle.ats_catalog_check.specs.Bytes.{IsAcceptedCatalog}
 use Rattle.ats_catalog_check.specs.Headline.{IsCatalogTopOrCollides}
 use Rattle.ats_catalog_check.specs.Strings.{CatalogPlace, over_roots, in_proof, difference_at, proofs_collision}
-use Rattle.ats_catalog_check.proofs.Public.{not_refused}
+use Rattle.ats_catalog_check.proofs.Public.{not_refused, one_proofs}
 use Rattle.ats_catalog_audit.specs.Verdicts.{Shards, AreAcceptedShards, shards_collision, IsCatalogVerdict, TellsCatalogCollision, IsCatalogTopOrTold}
 use Rattle.ats_catalog_audit.specs.declared.verdict.CatalogVerdict.{CatalogVerdict}
 use Rattle.ats_catalog_audit.specs.declared.verdict.CatalogVerdict.TheVariants.{Refused, Right, Collision}
-use Rattle.ats_catalog_audit.proofs.Firsts.{one_proofs}
 
 -- ---- a collision
 

@@ -2,4 +2,5 @@ pub mod Public
 mod Joined
 mod Passing
 mod Fields
+mod AllShown
 mod Roots

@@ -14,3 +14,11 @@ pub use Rattle.ats_catalog_bytes.proofs.Roots.{roots_bound}
 pub use Rattle.ats_catalog_bytes.proofs.Roots.{roots_bind}
 -- the first string of such roots that differs from ours is the first collision
 pub use Rattle.ats_catalog_bytes.proofs.Roots.{roots-collision-is-difference}
+-- all roots of a list as leaves of their tree
+pub use Rattle.ats_catalog_bytes.proofs.AllShown.{all_shown}
+-- the positions of all leaves rise, and there is one leaf for each root
+pub use Rattle.ats_catalog_bytes.proofs.AllShown.{positions_rise, shown_many}
+-- leaf k is root k
+pub use Rattle.ats_catalog_bytes.proofs.AllShown.{leaf_is}
+-- all leaves rebuild the root of their tree, without a digest
+pub use Rattle.ats_catalog_bytes.proofs.AllShown.{all_rebuild}

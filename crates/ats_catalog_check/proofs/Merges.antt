@@ -10,11 +10,11 @@ use Rattle.ats_catalog_check.specs.Inner.Places.{put_in}
 
 -- ---- one step
 
-step_later : (row : CatalogRow) (follow : List CatalogRow → List CatalogRow) (x : CatalogRow) (later : List CatalogRow) → precedes x row ≡ true
+pub step_later : (row : CatalogRow) (follow : List CatalogRow → List CatalogRow) (x : CatalogRow) (later : List CatalogRow) → precedes x row ≡ true
     → merge_before row follow (x ∷ later) ≡ x ∷ merge_before row follow later
 step_later row follow x later is = ap (λ (b : Bool). cond b (x ∷ merge_before row follow later) (row ∷ follow (x ∷ later))) is
 
-step_first : (row : CatalogRow) (follow : List CatalogRow → List CatalogRow) (x : CatalogRow) (later : List CatalogRow) → precedes x row ≡ false
+pub step_first : (row : CatalogRow) (follow : List CatalogRow → List CatalogRow) (x : CatalogRow) (later : List CatalogRow) → precedes x row ≡ false
     → merge_before row follow (x ∷ later) ≡ row ∷ follow (x ∷ later)
 step_first row follow x later not = ap (λ (b : Bool). cond b (x ∷ merge_before row follow later) (row ∷ follow (x ∷ later))) not
 

@@ -51,3 +51,5 @@ pub use Rattle.ats_client.proofs.TermsLeft.{at_place}
 pub use Rattle.ats_client.proofs.Counts.{taken}
 -- a collision that is there is not none
 pub use Rattle.ats_tree.proofs.Public.{none_some}
+-- what no threshold and no bracket outside the answer exceeds is no less than the rest
+pub use Rattle.ats_client.proofs.Rests.{rest_within}

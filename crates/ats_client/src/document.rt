@@ -20,7 +20,7 @@ ghost use Rattle.ats_client.specs.Slots.{ShowsTerm};
 
 use crate::kept_terms::{PresentTerm, PresentTerms};
 use crate::marking::weighed;
-use crate::opening::rebuilt;
+use crate::rebuilding::rebuilt;
 use crate::walk::Walk;
 use ats_hash::{Hash32, Steps};
 use ats_proof::{DocView, TermsView};

@@ -12,7 +12,7 @@ ghost use Rattle.ats_client.specs.Inner.KeptTerms.{kept_terms};
 
 use crate::document::document;
 use crate::kept_terms::PresentTerms;
-use crate::opening::rebuilt;
+use crate::rebuilding::rebuilt;
 use ats_bound::{Mark, Work};
 use ats_hash::{Hash32, Steps};
 use ats_proof::ProofView;

@@ -47,6 +47,7 @@ mod opening;
 mod others;
 mod own_tree;
 mod present_term;
+mod rebuilding;
 mod rows;
 mod section;
 mod settled;

@@ -13,8 +13,8 @@ ghost use Rattle.ats_client.specs.Inner.SeenLists.{prefix_of, presented_of};
 ghost use Rattle.ats_client.specs.Inner.KeptTerms.{kept_term};
 
 use crate::marking::{entries, rest_impact, weighed};
-use crate::opening::rebuilt;
 use crate::present_term::Present;
+use crate::rebuilding::rebuilt;
 use ats_bound::Work;
 use ats_hash::{Hash32, Steps};
 use ats_lists::{Format, chain_rebuild};

@@ -1,33 +1,15 @@
 //! Checks the root, the number of slots, and the dictionary section.
 
-ghost use Rattle.std.specs.Prelude.{◌≡◌, ◌≤◌, ◌+◌, ◌*◌, ◌^◌, length, OnOk, IfErr};
-ghost use Rattle.ats_tree.specs.Rebuild.{rebuilt};
+ghost use Rattle.std.specs.Prelude.{◌≤◌, ◌+◌, ◌*◌, ◌^◌, length, OnOk, IfErr};
 ghost use Rattle.ats_terms.specs.Query.{IsQuery};
 ghost use Rattle.ats_client.specs.Groups.{IsOpened, IsOpeningFault, IsDictionary, IsDictFault};
 
+use crate::rebuilding::rebuilt;
 use ats_commit::root_of_header_in;
 use ats_hash::{Hash32, Steps};
 use ats_proof::ProofView;
 use ats_refusal::Refusal;
 use ats_terms::Query;
-use ats_tree::{Revealed, rebuild};
-
-/// The digest that a section of a tree of `n` leaves rebuilds to, `None` if it is no part of such a tree.
-pub(crate) fn rebuilt<'a, H: Hash32, R: Revealed<'a>>(
-    n: u32,
-    revealed: &mut R,
-    steps: &mut Steps,
-) -> Option<[u8; 32]>
-    requires space { steps.old ≤ 2 ^ 63 }
-    ensures digest { result ≡ rebuilt H.hash n (R.shown revealed.old) (R.digests revealed.old) }
-    ensures cost { steps.new ≤ steps.old + 3 * n }
-    ensures most { steps.new ≤ steps.old + 3 * length (R.shown revealed.old) + 2 * length (R.digests revealed.old) + 1 }
-{
-    if n == 0 {
-        return None;
-    }
-    rebuild::<H, R>(n, revealed, steps).ok()
-}
 
 /// Checks that the header has this root in the format of the proof, and that the proof has as many slots as the query has terms.
 pub(crate) fn opened<H: Hash32>(

@@ -6,7 +6,8 @@
 //! come; it makes one pass and allocates nothing. [`Feeder`] is that reader over pieces, which may end inside a field;
 //! [`scan`] feeds it bytes that are all there.
 //!
-//! The same definitions serve every other format that is a table of fields and a limit. [`Reader`] reads such bytes: its
+//! The same definitions serve every other format but the index, which is compared with what its texts give, and not
+//! parsed: a format here is a table of fields and a limit. [`Reader`] reads such bytes: its
 //! caller asks for each field in turn, and the contracts say of any schema which fields were taken and what comes next.
 //! So the `read` of a file is a few calls in a row, and its faults are the first ones.
 //!

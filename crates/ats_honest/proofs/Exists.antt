@@ -85,7 +85,7 @@ lanes_are_whole texts query few is =
           subst IsWholeLane (sym at) (lane_is_whole texts pair few (All-filter has IsWeighed query all k ([], 0) here) (subst (λ (lane : WholeLane). IsList (length texts) lane.entries) at list));
     }
 
-narrow : (algorithm : Algorithm) (lanes : List WholeLane) → AreNarrow (bounding algorithm lanes)
+pub narrow : (algorithm : Algorithm) (lanes : List WholeLane) → AreNarrow (bounding algorithm lanes)
 narrow Tnra lanes = brackets_are_narrow
 narrow Tra lanes = looked_up_are_narrow (impacts_of lanes)
 

@@ -138,3 +138,5 @@ pub use Rattle.ats_honest.proofs.ShownCut.{honest_met}
 pub use Rattle.ats_honest.proofs.OneProof.{one_cut_shown}
 -- two honest proofs for one archive, query, row limit and algorithm are equal
 pub use Rattle.ats_honest.proofs.OneProof.{one_proof}
+-- the brackets of either algorithm are no wider than the threshold
+pub use Rattle.ats_honest.proofs.Exists.{narrow}

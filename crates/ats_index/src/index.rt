@@ -12,7 +12,6 @@ ghost use Rattle.ats_lists.specs.declared.format.Format.TheVariants.{One, Two};
 ghost use Rattle.ats_dict.specs.Dictionary.{dict_leaves};
 ghost use Rattle.ats_doctree.specs.Impacts.{doc_terms};
 ghost use Rattle.ats_doctree.specs.Sentinels.{terms_leaves};
-ghost use Rattle.ats_commit.specs.Archive.{archive_of};
 ghost use Rattle.ats_commit.specs.Trees.{dictionary_of, documents_of, leaf_of_terms};
 ghost use Rattle.ats_commit.specs.Root.{header_parts, root_of};
 ghost use Rattle.ats_commit.specs.Own.{AreTexts};
@@ -23,12 +22,11 @@ ghost use Rattle.ats_index.specs.Spelling.{IsSpelling, index_bytes};
 ghost use Rattle.ats_index.specs.LoadFaults.{IsDifference};
 
 use crate::compare::{Comparer, Takes};
-use crate::dictionary::{DictionaryTree, dictionary_tree};
-use crate::doc_leaves::{DocumentsTree, documents_tree};
-use crate::documents::{DocumentParts, counted};
-use crate::header::{header_of, root_of_texts};
+use crate::dictionary::DictionaryTree;
+use crate::doc_leaves::DocumentsTree;
+use crate::documents::DocumentParts;
+use crate::header::header_of;
 use crate::memory::OutOfMemory;
-use crate::parallel::{parts_and_texts, upper_trees};
 use crate::write::{index_size, put_lists, put_texts};
 use ats_base::Bytes;
 use ats_commit::root_of_header_in;
@@ -40,7 +38,6 @@ use ats_lists::{Chain, Format, ListDigests, Lists};
 use ats_tree::Nodes;
 use std::alloc::Global;
 use std::marker::{Model, PhantomData};
-use std::thread::Threads;
 
 /// A collection of 1 to 65,536 texts with all that its root commits to, under a hash function. Its lists are hashed in one
 /// format.
@@ -251,7 +248,7 @@ impl<H: HashKind> Index<H> {
 
 impl<H: Hash32> Index<H> {
     // The index of a collection in this format, from its lists, the terms of its documents, and the digests of all these.
-    fn assembled(
+    pub(crate) fn assembled(
         alloc: Global,
         format: Format,
         collection: Collection,
@@ -303,60 +300,5 @@ impl<H: Hash32> Index<H> {
             docs_nodes,
             kind: PhantomData,
         }
-    }
-
-    /// The index of a collection in which each list is one tree, by one thread. If memory runs out, the collection is
-    /// dropped.
-    pub fn build_plain(alloc: Global, collection: Collection) -> Result<Self, OutOfMemory>
-        ensures { IfOk result (λ index. index ≡ archive_of collection) }
-    {
-        Index::<H>::build_plain_in(alloc, collection, Format::One)
-    }
-
-    // The index of a collection in this format, by one thread.
-    fn build_plain_in(
-        alloc: Global,
-        collection: Collection,
-        format: Format,
-    ) -> Result<Self, OutOfMemory>
-        ensures { IfOk result (λ index. index ≡ archive_in format collection) }
-    {
-        let parts = counted::<H>(alloc, format, &collection)?;
-        let dictionary = dictionary_tree::<H>(alloc, format, &parts.lists, &parts.list_digests)?;
-        let documents = documents_tree::<H>(alloc, &collection, &parts.terms, &parts.term_nodes)?;
-        let texts_root = root_of_texts::<H>(alloc, &collection);
-        Ok(Index::<H>::assembled(
-            alloc, format, collection, parts, dictionary, documents, texts_root,
-        ))
-    }
-}
-
-impl<H: Hash32 + Sync> Index<H> {
-    /// The index of a collection in which each list is one tree: `build_in` with format One.
-    pub fn build(
-        rt: &(impl Threads + Sync),
-        alloc: Global,
-        collection: Collection,
-    ) -> Result<Self, OutOfMemory>
-        ensures { IfOk result (λ index. index ≡ archive_of collection) }
-    {
-        Index::<H>::build_in(rt, alloc, collection, Format::One)
-    }
-
-    /// The index of a collection with its lists in this format, by as many threads as the machine runs at once. If memory
-    /// runs out, the collection is dropped.
-    pub fn build_in(
-        rt: &(impl Threads + Sync),
-        alloc: Global,
-        collection: Collection,
-        format: Format,
-    ) -> Result<Self, OutOfMemory>
-        ensures { IfOk result (λ index. index ≡ archive_in format collection) }
-    {
-        let (parts, texts_root) = parts_and_texts::<H, _>(rt, alloc, format, &collection)?;
-        let (dictionary, documents) = upper_trees::<H, _>(rt, alloc, format, &collection, &parts)?;
-        Ok(Index::<H>::assembled(
-            alloc, format, collection, parts, dictionary, documents, texts_root,
-        ))
     }
 }

@@ -9,7 +9,8 @@
 //! (`ats_lists::Format`), which the bytes and the root say. An index has one spelling in
 //! bytes, and bytes are the spelling of at most one archive. Bytes are loaded exactly if they are the spelling of some
 //! archive. Else they are refused with the place of the first bad field up to the last text, or of the first
-//! difference from the index of the texts. The string at each place of the trees of an index is the archive's own. How
+//! difference from the index of the texts. No table of `ats_grammar` reads them: all that follows the texts has one
+//! value, so it is compared, not parsed. The string at each place of the trees of an index is the archive's own. How
 //! the parts are made and kept may change freely; the bytes may not.
 //!
 //! ```
@@ -23,6 +24,7 @@
 //! ```
 #![tactic(auto)]
 
+mod building;
 mod compare;
 mod dictionary;
 mod doc_leaves;

@@ -5,6 +5,7 @@ use Rattle.std.specs.declared.option.Option.{Option}
 use Rattle.std.specs.declared.option.Option.TheVariants.{Some}
 use Rattle.ats_bound.specs.declared.met_documents.Met.{Met}
 use Rattle.ats_bound.specs.Cut.{ShownLane, lo_of, names}
+use Rattle.ats_bound.specs.Schedule.{most_gain}
 use Rattle.ats_bound.specs.Inner.Cursors.{named_by}
 
 -- the document in a slot, with what is known of it
@@ -25,7 +26,7 @@ pub record IsKnown (lanes : List ShownLane) (met : Met) : Type 0 where
   pub lo : met.lo ≡ lo_of lanes met.doc
   pub named : met.named ≡ named_by lanes met.doc
   -- each lane that names it adds at most the largest coefficient times the largest impact
-  pub few : met.lo ≤ 34935 * 65535 * met.named
+  pub few : met.lo ≤ most_gain * met.named
 
 -- there is one slot for each met document and for no other, with what is known of it
 pub record AreMetDocuments (lanes : List ShownLane) (met : List Met) : Type 0 where

@@ -7,7 +7,7 @@ use Rattle.ats_tree.specs.Shown.{Shown}
 use Rattle.ats_tree.specs.Strings.{node_string, node_strings}
 use Rattle.ats_catalog_check.specs.Strings.{over_roots, difference_at}
 use Rattle.ats_catalog_audit.specs.Inner.Shown.{leaves_left}
-use Rattle.ats_catalog_audit.proofs.AllShown.{all_rebuild}
+use Rattle.ats_catalog_bytes.proofs.Public.{all_rebuild}
 use Rattle.ats_catalog_audit.proofs.Clashing.{all_short, tree_found}
 use Rattle.ats_catalog_audit.proofs.roots.tree_clash.Goals as goal
 

@@ -1,6 +1,6 @@
 use Rattle.std.proofs.Common.{◌<◌, length, sym, arith}
 use Rattle.std.proofs.lemmas.List.{drop-drop}
-use Rattle.ats_catalog_audit.proofs.AllShown.{all_shown}
+use Rattle.ats_catalog_bytes.proofs.Public.{all_shown}
 use Rattle.ats_catalog_audit.proofs.Clashing.{left_inside}
 use Rattle.ats_catalog_audit.proofs.shown.ShownRootsRevealed.pass_leaf.Goals as goal
 
