@@ -71,7 +71,7 @@ impl FaultPlan {
         self.last_failed = true;
     }
 
-    /// Counts a fault that is none of its own calls: that of a broken link which comes back.
+    /// Counts a fault that the plan did not cause: a broken link that fails again.
     pub(crate) fn count_broken(&mut self)
         ensures { self.new ≡ record self.old { faults = next self.old.faults } }
     {

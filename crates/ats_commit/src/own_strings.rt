@@ -25,7 +25,7 @@ pub trait OwnStrings<H: Hash32> {
 
     /// Whether what a proof in this format shows of a tree of `n` leaves is the archive's own: its leaves at their
     /// positions, and the digests of the rest. A list in another format than the archive's is not. It only compares:
-    /// nothing is hashed, and no memory is taken. The header is no such tree. What is left in `shown` afterwards is any.
+    /// nothing is hashed, and no memory is taken. The header is no such tree. How much of `shown` is left afterwards is not said.
     fn has_shown<S: PartialTree>(
         &self,
         format: Format,

@@ -47,7 +47,7 @@ pub(crate) fn string_of(children: &Children) -> HashedString
     HashedString::tagged(1, &children.left, &children.right)
 }
 
-/// A node of both sides. Its strings are higher than those below it.
+/// A node of both sides, compared with what was found below it: a difference here comes first, as it is nearer the root.
 pub(crate) fn joined<'a, H: Hash32>(
     theirs: Children,
     own: Children,

@@ -1,4 +1,4 @@
--- What other empty_lists may cite of the proofs of this one. All other files here are private.
+-- What other rooms may cite of the proofs of this one. All other files here are private.
 
 -- a run of numbers rises strictly
 pub use Rattle.ats_lists.proofs.Fronts.{range-rises}

@@ -108,7 +108,7 @@ impl Nodes {
     }
 
     /// Whether what is shown of a tree of `n` leaves is this tree's own, whose leaves these are. It only compares: nothing
-    /// is hashed, and no memory is taken. What is left in `shown` afterwards is any.
+    /// is hashed, and no memory is taken. How much of `shown` is left afterwards is not said.
     pub fn has_shown<H: HashKind, L: ShortLeaves, S: PartialTree>(
         &self,
         leaves: &L,

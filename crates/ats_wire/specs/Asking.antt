@@ -78,7 +78,7 @@ pub record IsAsked (question : Question) (before now : LinkTold) (result : Resul
   pub moved : Moves before now read written 1 (is_broken result)
   pub says : Exchanges (request_frame question) now read written result
 
--- a result that what the peer sent decided, not a fault or lack of memory; a length has 4 bytes
+-- the result depends only on what the peer sent: no call failed, and memory sufficed; a length has 4 bytes
 abbrev pub IsHeard : Result (List ℕ) AskFault → Type 0
 IsHeard (Ok bytes) = Unit {0}
 IsHeard (Err (ShortReply got wanted)) = Unit {0}
