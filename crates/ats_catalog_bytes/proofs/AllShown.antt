@@ -60,7 +60,7 @@ all_front shown (suc n) from each = (
 )
 
 -- no digest is needed
-nothing_elided : (H : List ℕ → List ℕ) (roots : List (List ℕ)) → elided_digests H roots (all_of roots) ≡ []
+pub nothing_elided : (H : List ℕ → List ℕ) (roots : List (List ℕ)) → elided_digests H roots (all_of roots) ≡ []
 nothing_elided H roots =
     let n : ℕ = length roots in
     let os : List (Option (List ℕ)) = places 0 n (all_shown roots) in

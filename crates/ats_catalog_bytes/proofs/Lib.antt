@@ -4,3 +4,4 @@ mod Passing
 mod Fields
 mod AllShown
 mod Roots
+mod OwnRoots

@@ -14,6 +14,8 @@ pub use Rattle.ats_catalog_bytes.proofs.Roots.{roots_bound}
 pub use Rattle.ats_catalog_bytes.proofs.Roots.{roots_bind}
 -- the first string of such roots that differs from ours is the first collision
 pub use Rattle.ats_catalog_bytes.proofs.Roots.{roots-collision-is-difference}
+-- roots have no collision with themselves
+pub use Rattle.ats_catalog_bytes.proofs.OwnRoots.{roots_unclashing}
 -- all roots of a list as leaves of their tree
 pub use Rattle.ats_catalog_bytes.proofs.AllShown.{all_shown}
 -- the positions of all leaves rise, and there is one leaf for each root
