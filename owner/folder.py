@@ -13,11 +13,13 @@ Status 0: the folder is there. Status 1: it is not, and the line says what to do
 import functools
 import hashlib
 import itertools
+import multiprocessing
 import os
 import shutil
 import struct
 import sys
 import tempfile
+import threading
 from concurrent.futures import ProcessPoolExecutor
 from typing import Callable, Iterable, Iterator, NamedTuple, NoReturn, Optional, TypeVar
 
@@ -188,13 +190,25 @@ def portions(items: Iterable[Item], weight: Callable[[Item], int]) -> Iterator[l
         yield run
 
 
+def end_with_maker() -> None:
+    """Has this process end when the one that made it is killed. It would wait for more work for ever, and keep what it
+    inherited, such as the lock of a folder."""
+    def wait() -> None:
+        multiprocessing.parent_process().join()
+        os._exit(1)
+
+    threading.Thread(target=wait, daemon=True).start()
+
+
 class Work:
     """Hashes portions, by one process or several, and shows on a terminal how far it is."""
 
     def __init__(self, entries: int, advance: Optional[Callable[[int, int], None]]):
         self.entries, self.done, self.advance = max(2 * entries, 1), 0, advance
         processes = os.cpu_count() or 1
-        self.pool: Optional[ProcessPoolExecutor] = ProcessPoolExecutor(processes) if entries > FEW and processes > 1 else None
+        self.pool: Optional[ProcessPoolExecutor] = None
+        if entries > FEW and processes > 1:
+            self.pool = ProcessPoolExecutor(processes, initializer=end_with_maker)
 
     def each(self, hashed: Callable[[list[Item]], list[Found]], items: list[Item], weight: Callable[[Item], int]) -> list[Found]:
         runs, found = list(portions(items, weight)), []

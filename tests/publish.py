@@ -23,8 +23,8 @@ import time
 from pathlib import Path
 from typing import Iterator, NamedTuple
 
-from tries import HOME, Ended, Tries
-from trying import program_of
+from tries import HOME, Ended, Tries, working
+from trying import program_of, wait_until
 
 PUBLISH = HOME / "owner" / "publish"
 PLACES = ("/usr/share/doc", "/usr/share/man", "/usr/share/perl", "/usr/share/info")
@@ -78,6 +78,11 @@ class Place(NamedTuple):
     def publish(self, *more: object) -> Ended:
         return self.tries.run(*self.words, *more)
 
+    def start(self, said: int, *more: object) -> "subprocess.Popen[bytes]":
+        """A run in a session of its own."""
+        return subprocess.Popen(list(map(str, [*self.words, *more])), stdout=subprocess.DEVNULL, stderr=said,
+                                start_new_session=True)
+
     def put(self, name: str, data: bytes) -> None:
         path = self.files / name
         path.parent.mkdir(parents=True, exist_ok=True)
@@ -90,6 +95,11 @@ class Place(NamedTuple):
 def place(tries: Tries, name: str) -> Place:
     (tries.folder / name).mkdir()
     return Place(tries, tries.folder / name / "files", tries.folder / name / "public")
+
+
+def says(run: "subprocess.Popen[bytes]", line: str) -> bool:
+    """Whether the run comes to say the line."""
+    return any(said.decode() == line for said in run.stderr)
 
 
 def root_of(ended: Ended) -> str:
@@ -205,6 +215,20 @@ def shards(tries: Tries) -> None:
     tries.check("a changed file of a closed shard is refused", ended.status == 1 and "'03.txt': it has another text" in ended.said and digest_of(one.public, one.state) == before)
 
 
+def workers_end(tries: Tries) -> None:
+    """A run that is killed while its workers hash. They end with it, and the next run need not wait for the folder."""
+    one = place(tries, "workers")
+    for at in range(500):
+        one.put(f"{at:03}.txt", " ".join(f"w{word}" for word in range(at, at + 500)).encode())
+    run = one.start(subprocess.PIPE)
+    hashes = says(run, "making the folder for hosts\n") and wait_until(lambda: len(working(run.pid)) > 2)
+    tries.check("several processes hash", hashes)
+    run.kill()
+    run.communicate()
+    tries.check("they end with the run that is killed", wait_until(lambda: not working(run.pid), 5))
+    tries.check("and the next run goes on", one.publish().status == 0)
+
+
 # Real files
 
 
@@ -246,7 +270,7 @@ def killed(tries: Tries, one: Place) -> None:
     for number, moment in enumerate(times + [-1.0] * KILLS_AS_MOVED):
         other = copied(one, "killed")
         shutil.copy(tries.folder / "real.log", tries.folder / "killed.log")
-        run = subprocess.Popen([*map(str, other.words), *third], stdout=subprocess.DEVNULL, stderr=subprocess.DEVNULL, start_new_session=True)
+        run = other.start(subprocess.DEVNULL, *third)
         until(moment, other, run)
         with contextlib.suppress(ProcessLookupError):  # it may have ended before
             (os.killpg if number % 2 else os.kill)(run.pid, signal.SIGKILL)  # with the program that it started, or without
@@ -302,7 +326,7 @@ def main() -> int:
     random.seed(seed)
     with tempfile.TemporaryDirectory() as folder:
         tries = Tries(Path(folder), program)
-        for each in (first_steps, refusals, signatures, shards):
+        for each in (first_steps, refusals, signatures, shards, workers_end):
             each(tries)
         files = list(real_files(count))
         print(f"    {len(files)} real files of {sum(len(data) for _, data in files):,} bytes, seed {seed}", flush=True)

@@ -19,6 +19,17 @@ class Ended(NamedTuple):
     said: str
 
 
+def working(session: int) -> list[int]:
+    """The processes of a session that have not ended. Each run that is started in one of its own has all of its own there."""
+    found = []
+    for path in Path("/proc").glob("[0-9]*/stat"):
+        with contextlib.suppress(OSError):  # it has ended meanwhile
+            state, _, _, of, *_ = path.read_bytes().rpartition(b")")[2].split()
+            if int(of) == session and state != b"Z":
+                found.append(int(path.parent.name))
+    return found
+
+
 class Tries(Tally):
     """What was tried so far, in a folder of its own."""
 

@@ -6,6 +6,7 @@ What the measures have too is imported here from their folder.
 import struct
 import subprocess
 import sys
+import time
 from pathlib import Path
 from typing import Callable, Optional
 
@@ -40,6 +41,13 @@ class Skipped(Exception):
 def expect(what: str, came: object, wanted: object) -> None:
     if came != wanted:
         raise Differs(f"{what}: {came!r}, wanted {wanted!r}")
+
+
+def wait_until(true: Callable[[], object], seconds: float = 20) -> object:
+    end = time.monotonic() + seconds
+    while not true() and time.monotonic() < end:
+        time.sleep(0.02)
+    return true()
 
 
 def framed(body: bytes) -> bytes:
