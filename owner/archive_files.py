@@ -114,12 +114,23 @@ def store(data: bytes, path: str) -> None:
         storing.add(path, data)
 
 
+def is_taken(lock: int) -> bool:
+    """Takes the lock of a file that is open, unless another run has it."""
+    try:
+        fcntl.flock(lock, fcntl.LOCK_EX | fcntl.LOCK_NB)
+    except BlockingIOError:
+        return False
+    return True
+
+
 @contextlib.contextmanager
 def alone_in(folder: str) -> Iterator[None]:
-    """Lets one run at a time work in the folder: the others wait."""
+    """Lets one run at a time work in the folder: the others say that they wait, and do so."""
     held = os.open(folder or ".", os.O_RDONLY | os.O_CLOEXEC)
     try:
-        fcntl.flock(held, fcntl.LOCK_EX)
+        if not is_taken(held):
+            say(f"waiting: another run works in {shown(folder or '.')}")
+            fcntl.flock(held, fcntl.LOCK_EX)
         yield
     finally:
         os.close(held)

@@ -19,12 +19,16 @@ import signal
 import subprocess
 import sys
 import tempfile
+import threading
 import time
 from pathlib import Path
 from typing import Iterator, NamedTuple
 
-from tries import HOME, Ended, Tries, working
+from tries import HOME, LIMIT, Ended, Tries, working
 from trying import program_of, wait_until
+
+sys.path.append(str(HOME / "owner"))
+import archive_files  # noqa: E402
 
 PUBLISH = HOME / "owner" / "publish"
 PLACES = ("/usr/share/doc", "/usr/share/man", "/usr/share/perl", "/usr/share/info")
@@ -98,8 +102,12 @@ def place(tries: Tries, name: str) -> Place:
 
 
 def says(run: "subprocess.Popen[bytes]", line: str) -> bool:
-    """Whether the run comes to say the line."""
-    return any(said.decode() == line for said in run.stderr)
+    """Whether the run comes to say the line. It is killed if it says nothing for long."""
+    killer = threading.Timer(LIMIT, run.kill)
+    killer.start()
+    found = any(said.decode() == line for said in run.stderr)
+    killer.cancel()
+    return found
 
 
 def root_of(ended: Ended) -> str:
@@ -129,6 +137,16 @@ def first_steps(tries: Tries) -> None:
     tries.check("the host's folder has the root that the program serves", tries.ask("root", next(one.state.glob(f"{followed.printed.decode().strip()}.index"))).printed == followed.printed)
     shutil.rmtree(one.public / f"{root_of(ended)}-1")
     tries.check("a folder that its owner removed stays away", one.publish().status == 0 and not (one.public / f"{root_of(ended)}-1").exists())
+
+
+def waits(tries: Tries) -> None:
+    """A run that finds another one at work in the folder says so, once, and goes on after it."""
+    one = Place(tries, tries.folder / "small" / "files", tries.folder / "small" / "public")
+    with archive_files.alone_in(str(one.state)):
+        run = one.start(subprocess.PIPE)
+        tries.check("a run that waits says so", says(run, f"waiting: another run works in {str(one.state)!r}\n"))
+    said = run.communicate()[1]
+    tries.check("and goes on when it may, without another word of that", run.returncode == 0 and b"waiting" not in said)
 
 
 def refusals(tries: Tries) -> None:
@@ -326,7 +344,7 @@ def main() -> int:
     random.seed(seed)
     with tempfile.TemporaryDirectory() as folder:
         tries = Tries(Path(folder), program)
-        for each in (first_steps, refusals, signatures, shards, workers_end):
+        for each in (first_steps, waits, refusals, signatures, shards, workers_end):
             each(tries)
         files = list(real_files(count))
         print(f"    {len(files)} real files of {sum(len(data) for _, data in files):,} bytes, seed {seed}", flush=True)
