@@ -5,6 +5,7 @@ which callers were skipped since their toolchain is missing.
 python3 reader/play.py              proves the static library by ./prove, builds it and plays
 python3 reader/play.py ARCHIVE.a    takes a static library that is built already
 """
+import argparse
 import concurrent.futures
 import ctypes
 import json
@@ -36,6 +37,15 @@ def proved() -> str:
     if subprocess.run([os.path.join(TOP, "prove"), "ats_reader"]).returncode:
         sys.exit("there is no library to call: ./prove says above why it could not be built")
     return os.path.join(CRATE, "out", "libats_reader.a")
+
+
+def library(named: Optional[str]) -> str:
+    """The path of the static library: of the one that is named, or of the one that is proved."""
+    if named is None:
+        return proved()
+    if not os.path.isfile(named):
+        sys.exit(f"there is no library {named!r}: ./prove ats_reader makes crates/ats_reader/out/libats_reader.a")
+    return named
 
 
 def install(archive: str, folder: str) -> tuple[str, str]:
@@ -325,8 +335,8 @@ def play_rooms(shared: str) -> Tally:
     return tally
 
 
-def main(archive: Optional[str] = None) -> int:
-    archive, every = archive or proved(), Tally()
+def main(archive: str) -> int:
+    every = Tally()
     with tempfile.TemporaryDirectory() as folder:
         check, shared = build(archive, folder)
         reader = Reader(shared)
@@ -343,4 +353,6 @@ def main(archive: Optional[str] = None) -> int:
 
 
 if __name__ == "__main__":
-    sys.exit(main(*sys.argv[1:]))
+    words = argparse.ArgumentParser(description=__doc__, formatter_class=argparse.RawDescriptionHelpFormatter)
+    words.add_argument("archive", metavar="ARCHIVE.a", nargs="?")
+    sys.exit(main(library(words.parse_args().archive)))

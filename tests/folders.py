@@ -371,11 +371,19 @@ def of_packages(tries: Tries) -> None:
         tries.check("and it is said if there are no more", (f"less than {size:,} bytes" in said.getvalue()) != is_there)
 
 
+def players(tries: Tries) -> None:
+    """What plays the vectors to readers' programs says how it is called."""
+    helped, missing = (tries.run(sys.executable, HOME / "reader" / "play.py", word) for word in ("--help", "nowhere.a"))
+    tries.check("help of the vectors' player", helped.status == 0 and b"ARCHIVE.a" in helped.printed and not helped.said)
+    line = "there is no library 'nowhere.a': ./prove ats_reader makes crates/ats_reader/out/libats_reader.a\n"
+    tries.check("a library that is missing", missing == Ended(1, b"", line))
+
+
 def main() -> int:
     program = program_of(sys.argv[1:])
     with tempfile.TemporaryDirectory() as folder:
         tries = Tries(Path(folder), program)
-        for each in (hostile, unreadable, title_lines, titles, faults, at_limits, later_fits, pages, choices, messages, pdfs, shards, of_packages, *roots.CASES):
+        for each in (hostile, unreadable, title_lines, titles, faults, at_limits, later_fits, pages, choices, messages, pdfs, shards, of_packages, players, *roots.CASES):
             each(tries)
         tries.check("no script leaves half a file", not tries.parts())
         return tries.conclude()
