@@ -197,9 +197,21 @@ def processes(program: str, index: Path, ports: list[int]) -> Iterator[list[Proc
 # The relay, and HAProxy with the configuration of service/
 
 
+class Relay(NamedTuple):
+    """A process of the relay, and the port where it listens."""
+
+    process: "subprocess.Popen[bytes]"
+    port: int
+
+    def most_memory(self) -> int:
+        """The most bytes that it has held."""
+        said = Path(f"/proc/{self.process.pid}/status").read_text(encoding="ascii")
+        return int(re.search(r"VmHWM:\s*([0-9]+) kB", said)[1]) * 1024  # type: ignore[index]
+
+
 @contextlib.contextmanager
-def relay(ports: list[int], **limits: int) -> Iterator[int]:
-    """The relay before processes at these ports, with some of its limits changed. Gives the port where it listens."""
+def relay(ports: list[int], **limits: int) -> Iterator[Relay]:
+    """The relay before processes at these ports, with some of its limits changed."""
     port = free_port()
     start = "import sys; sys.path.insert(0, sys.argv.pop(1)); import relay; " + "".join(
         f"relay.{name} = {value}; " for name, value in limits.items())
@@ -208,7 +220,7 @@ def relay(ports: list[int], **limits: int) -> Iterator[int]:
     with subprocess.Popen(words, stdout=subprocess.DEVNULL) as process:
         try:
             wait_for(port)
-            yield port
+            yield Relay(process, port)
         finally:
             process.terminate()
 
@@ -252,7 +264,7 @@ class Balancer:
 @contextlib.contextmanager
 def service(house: "House", ports: list[int]) -> Iterator[int]:
     """The relay and HAProxy before processes at these ports. Gives the port that readers call."""
-    with relay(ports) as behind, Balancer(house.folder, behind) as balancer:
+    with relay(ports) as behind, Balancer(house.folder, behind.port) as balancer:
         yield balancer.port
 
 
@@ -388,7 +400,7 @@ def long_replies() -> Iterator[int]:
 
 def whole_connections_end(_: House) -> None:
     """A reader that takes a byte now and then is ended, though it is never silent."""
-    with long_replies() as process, relay([process], TAKING=3) as port, connected(port, 1) as link:
+    with long_replies() as process, relay([process], TAKING=3) as before, connected(before.port, 1) as link:
         link.sendall(request(ROWS, QUERY))
         end = time.monotonic() + 5
         while time.monotonic() < end:
@@ -423,23 +435,13 @@ def many_long_replies() -> Iterator[int]:
         door.shutdown()
 
 
-def most_memory(port: int) -> int:
-    """The most bytes that the relay at a port has held: the one of our children with the port among its words."""
-    for each in Path("/proc").glob("[0-9]*/cmdline"):
-        with contextlib.suppress(OSError):
-            if f"127.0.0.1:{port}".encode() in each.read_bytes().split(b"\0")[4:6]:
-                said = (each.parent / "status").read_text(encoding="ascii")
-                return int(re.search(r"VmHWM:\s*([0-9]+) kB", said)[1]) * 1024  # type: ignore[index]
-    raise Differs("the relay is not among the processes")
-
-
 def relay_keeps_its_memory(_: House) -> None:
     """Readers who take nothing hold no more than the replies for which there is room, in one copy each."""
-    with many_long_replies() as process, relay(8 * [process], MEMORY=SHARED) as port, contextlib.ExitStack() as stack:
+    with many_long_replies() as process, relay(8 * [process], MEMORY=SHARED) as before, contextlib.ExitStack() as stack:
         for number in range(SLOW_READERS):
-            stack.enter_context(connected(port, number)).sendall(request(ROWS, QUERY))
+            stack.enter_context(connected(before.port, number)).sendall(request(ROWS, QUERY))
         time.sleep(8)
-        most = most_memory(port)
+        most = before.most_memory()
     print(f"    {most / corpora.MIB:.0f} MiB of {SHARED / corpora.MIB:.0f} MiB for replies")
     if most > SHARED + 64 * corpora.MIB:
         raise Differs(f"the relay has held {most} bytes")
@@ -480,9 +482,9 @@ def changed_index(house: House) -> None:
     old, new = ([free_port() for _ in range(4)] for _ in range(2))
     with contextlib.ExitStack() as stack:
         stack.enter_context(processes(house.program, house.old.index, old))
-        balancer = stack.enter_context(Balancer(house.folder, stack.enter_context(relay(old))))
+        balancer = stack.enter_context(Balancer(house.folder, stack.enter_context(relay(old)).port))
         stack.enter_context(processes(house.program, house.new.index, new))
-        behind = stack.enter_context(relay(new))
+        behind = stack.enter_context(relay(new)).port
         with ThreadPoolExecutor(1) as pool:
             during = pool.submit(steadily, house, balancer.port, 6.0)
             time.sleep(2)
@@ -628,7 +630,7 @@ def measure(program: str, folder: Path, mib: int) -> None:
     start = time.monotonic()
     with processes(program, index, ports) as made:
         loaded = time.monotonic() - start
-        with relay(ports) as behind, Balancer(folder, behind) as balancer, ThreadPoolExecutor(READERS) as pool:
+        with relay(ports) as behind, Balancer(folder, behind.port) as balancer, ThreadPoolExecutor(READERS) as pool:
             end = time.monotonic() + seconds
             counts = list(pool.map(lambda number: served(balancer.port, LARGE_QUERY, number, end), range(READERS)))
             print(f"{mib:3} MiB: {held(made[0]) / corpora.MIB:4.0f} MiB a process, four load in {loaded:.1f} s, "
