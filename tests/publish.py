@@ -34,7 +34,10 @@ PUBLISH = HOME / "owner" / "publish"
 PLACES = ("/usr/share/doc", "/usr/share/man", "/usr/share/perl", "/usr/share/info")
 MOST = 12_000  # bytes of one file, so that the whole fits one archive
 KILLS, KILLS_AS_MOVED = 20, 6
+AS_MOVED = -1.0  # the moment at which a run moves files
 MONTHS = ("2024-05-31", "2024-06-30", "2024-07-31")
+CHOICE = ("--exclude", "*.html", "--include", "*.json")
+THIRD = ("--date", MONTHS[2], *CHOICE)
 MINISIGN = ("minisign", "minisign -G -W -p {0}.pub -s {0}", ".minisig", "--minisign", "{0}.pub")
 SSH = ("ssh-keygen", "ssh-keygen -q -t ed25519 -N '' -f {0} && echo me@example.org $(cat {0}.pub) >{0}.signers", ".sig", "--signers", "{0}.signers")
 
@@ -259,7 +262,7 @@ def months(tries: Tries, files: list[tuple[str, bytes]]) -> Place:
             one.put(name, data)
         if month < 2:
             began = time.monotonic()
-            ended = one.publish("--date", date, "--exclude", "*.html", "--include", "*.json")
+            ended = one.publish("--date", date, *CHOICE)
             roots.append(root_of(ended))
             print(f"    {time.monotonic() - began:.1f} s: {ended.printed.decode().splitlines()[:2]}", flush=True)
             tries.check(f"{cut[month + 1]} real files, month {month + 1}", ended.status == 0 and one.follow("real.log", *(["--root", roots[0]] if month == 0 else [])).status == 0)
@@ -275,35 +278,55 @@ def copied(one: Place, name: str) -> Place:
     return other
 
 
-def killed(tries: Tries, one: Place) -> None:
-    """Runs that are killed: readers have the old archive or the new one, and the next run goes on."""
-    third = ("--date", MONTHS[2], "--exclude", "*.html", "--include", "*.json")
+def third_month(tries: Tries, one: Place) -> tuple[float, str]:
+    """How many seconds a whole run takes, and what is there after it."""
     whole = copied(one, "whole")
     began = time.monotonic()
-    ended = whole.publish(*third)
-    seconds, wanted = time.monotonic() - began, content_of(whole.public, whole.state)
+    ended = whole.publish(*THIRD)
+    seconds = time.monotonic() - began
     tries.check("the third month", ended.status == 0 and whole.follow("whole.log", "--trust-first").status == 0)
     print(f"    {seconds:.1f} s: {ended.printed.decode().splitlines()[:2]}", flush=True)
-    times = [random.random() * seconds for _ in range(KILLS)]
-    for number, moment in enumerate(times + [-1.0] * KILLS_AS_MOVED):
-        other = copied(one, "killed")
-        shutil.copy(tries.folder / "real.log", tries.folder / "killed.log")
-        run = other.start(subprocess.DEVNULL, *third)
-        until(moment, other, run)
-        with contextlib.suppress(ProcessLookupError):  # it may have ended before
-            (os.killpg if number % 2 else os.kill)(run.pid, signal.SIGKILL)  # with the program that it started, or without
-        run.wait()
-        where = f"after {moment:.1f} s" if moment >= 0 else "as it moves files"
-        read = other.follow("killed.log")
-        tries.check(f"killed {where}: readers have publication {2 + (b'publication: 3' in tries.read('killed.log'))}", read.status == 0)
-        tries.check("  the next run goes on, to the same bytes", other.publish(*third).status == 0 and content_of(other.public, other.state) == wanted)
+    return seconds, content_of(whole.public, whole.state)
+
+
+def killed(tries: Tries, one: Place) -> None:
+    """Runs that are killed: readers have the old archive or the new one, and the next run goes on. A run that ended before it
+    was killed is no trial, and another moment takes the place of its own."""
+    seconds, wanted = third_month(tries, one)
+    moments, late = [AS_MOVED] * KILLS_AS_MOVED + [random.random() * seconds for _ in range(KILLS)], 0
+    while moments and late <= KILLS:
+        moment, other = moments.pop(), copied(one, "killed")
+        if is_killed(other, moment, with_program=len(moments) % 2 == 1):
+            see_killed(tries, other, "as it moves files" if moment == AS_MOVED else f"after {moment:.1f} s", wanted)
+        else:
+            late += 1
+            moments.append(moment if moment == AS_MOVED else random.random() * seconds)
+    tries.check(f"{KILLS + KILLS_AS_MOVED} runs are killed, apart from {late} that ended before", not moments)
+
+
+def is_killed(other: Place, moment: float, with_program: bool) -> bool:
+    """Starts a run and kills it at this moment, with the program that it started or without. Says whether it still ran."""
+    run = other.start(subprocess.DEVNULL, *THIRD)
+    until(moment, other, run)
+    with contextlib.suppress(ProcessLookupError):  # it may have ended before
+        (os.killpg if with_program else os.kill)(run.pid, signal.SIGKILL)
+    return run.wait() == -signal.SIGKILL
+
+
+def see_killed(tries: Tries, other: Place, where: str, wanted: str) -> None:
+    shutil.copy(tries.folder / "real.log", tries.folder / "killed.log")
+    read = other.follow("killed.log")
+    number = 2 + (b"publication: 3" in tries.read("killed.log"))
+    tries.check(f"killed {where}: readers have publication {number}", read.status == 0)
+    same = other.publish(*THIRD).status == 0 and content_of(other.public, other.state) == wanted
+    tries.check("  the next run goes on, to the same bytes", same)
 
 
 def until(moment: float, other: Place, run: subprocess.Popen) -> None:
     """Waits for a time, or until the run begins to move files."""
-    if moment >= 0:
+    if moment != AS_MOVED:
         time.sleep(moment)
-    while moment < 0 and run.poll() is None and not (other.state / "ready").exists():
+    while moment == AS_MOVED and run.poll() is None and not (other.state / "ready").exists():
         pass
 
 
