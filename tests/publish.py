@@ -140,6 +140,10 @@ def first_steps(tries: Tries) -> None:
     tries.check("the host's folder has the root that the program serves", tries.ask("root", next(one.state.glob(f"{followed.printed.decode().strip()}.index"))).printed == followed.printed)
     shutil.rmtree(one.public / f"{root_of(ended)}-1")
     tries.check("a folder that its owner removed stays away", one.publish().status == 0 and not (one.public / f"{root_of(ended)}-1").exists())
+    for part in ("own", "public"):
+        (one.state / "ready" / part).mkdir(parents=True)
+        ended = one.publish()
+        tries.check(f"a run after one that was killed as it removed all but {part}", ended.status == 0 and not (one.state / "ready").exists(), ended)
 
 
 def waits(tries: Tries) -> None:
@@ -318,8 +322,9 @@ def see_killed(tries: Tries, other: Place, where: str, wanted: str) -> None:
     read = other.follow("killed.log")
     number = 2 + (b"publication: 3" in tries.read("killed.log"))
     tries.check(f"killed {where}: readers have publication {number}", read.status == 0)
-    same = other.publish(*THIRD).status == 0 and content_of(other.public, other.state) == wanted
-    tries.check("  the next run goes on, to the same bytes", same)
+    ended = other.publish(*THIRD)
+    same = ended.status == 0 and content_of(other.public, other.state) == wanted
+    tries.check("  the next run goes on, to the same bytes", same, ended)
 
 
 def until(moment: float, other: Place, run: subprocess.Popen) -> None:
