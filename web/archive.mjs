@@ -4,21 +4,37 @@
 
 import { DIGEST, Fields, compareBytes, hex, same } from './bytes.mjs';
 import { hostFault } from './fault.mjs';
-import { InvertedList, sizeOfList } from './list.mjs';
+import { sizeOfList } from './list.mjs';
 import { sha256 } from './sha256.mjs';
 import { KnownTree, besides, leafDigest } from './tree.mjs';
 
 const LAYOUT = 1, HEADER = 105, HEADER_TAG = 4, MOST_HEAD = 2 ** 16;
-const LEAST_SHIFT = 6, MOST_SHIFT = 18, GROUP_SHIFT = 2;
+const LEAST_SHIFT = 6, MOST_SHIFT = 18, GROUP_SHIFT = 2, GROUP = 1 << GROUP_SHIFT;
 const MOST_TEXT = 2 ** 20, MOST_TERM = 64, MOST_DOCUMENTS = 2 ** 16, MOST_LEAVES = 2 ** 24 + 2;
 
 /**
  * @typedef {{ position: number, term: Uint8Array, bytes: Uint8Array }} Leaf
  * @typedef {Leaf & { documents: number, root: Uint8Array, list: number }} DictionaryLeaf `list` is where its list
  *   begins
- * @typedef {{ first: Uint8Array, start: number, end: number }} Page its first term, and where it is
+ * @typedef {{ term: Uint8Array, start: number, end: number }} Page its first term, and where it is
  * @typedef {{ record: Uint8Array, from: number, to: number }} Member of a group
  */
+
+/**
+ * How many of these, in the order of their terms, have at most this one.
+ * @template {{ term: Uint8Array }} Some
+ * @param {Some[]} sorted
+ * @param {Uint8Array} term
+ */
+function countUpTo(sorted, term) {
+  let low = 0, high = sorted.length;
+  while (low < high) {
+    const middle = low + high >> 1;
+    if (compareBytes(sorted[middle].term, term) <= 0) low = middle + 1;
+    else high = middle;
+  }
+  return low;
+}
 
 /**
  * The leaf of a term, or the leaf below and the one above, as far as they are among these leaves.
@@ -27,19 +43,13 @@ const MOST_TEXT = 2 ** 20, MOST_TERM = 64, MOST_DOCUMENTS = 2 ** 16, MOST_LEAVES
  * @param {Uint8Array} term
  */
 export function neighbours(leaves, term) {
-  let low = 0, high = leaves.length;
-  while (low < high) {
-    const middle = low + high >> 1;
-    if (compareBytes(leaves[middle].term, term) <= 0) low = middle + 1;
-    else high = middle;
-  }
-  const below = leaves[low - 1];
-  return below && compareBytes(below.term, term) === 0 ? [below] : [below, leaves[low]];
+  const count = countUpTo(leaves, term), below = leaves[count - 1];
+  return below && same(below.term, term) ? [below] : [below, leaves[count]];
 }
 
 /** One archive, by its root. Several of them, as shards, are read side by side by one of these each. */
 export class Archive {
-  #reader; #folder; #header; #pageShift;
+  #reader; #folder; #pageShift;
   /** @type {Page[]} */
   #pages = [];
   /** @type {Map<string, Promise<any>>} */
@@ -68,9 +78,9 @@ export class Archive {
     const [magic, layout] = [String.fromCharCode(...fields.take(4)), fields.u8()];
     if (magic !== 'ATSH' || layout !== LAYOUT) throw hostFault('wrong', 'head', 'another layout');
     this.#pageShift = fields.u8();
-    this.#header = fields.take(HEADER).slice();
-    if (!same(sha256(HEADER_TAG, this.#header), root)) throw hostFault('wrong', 'head', 'another root');
-    const header = new Fields('head', this.#header);
+    this.header = fields.take(HEADER).slice();
+    if (!same(sha256(HEADER_TAG, this.header), root)) throw hostFault('wrong', 'head', 'another root');
+    const header = new Fields('head', this.header);
     header.u8();
     this.documents = header.u32();
     this.leaves = header.u32();
@@ -83,8 +93,6 @@ export class Archive {
     this.textsTree = new KnownTree(this.documents, texts);
     this.#readSparseIndex(fields);
   }
-
-  get header() { return this.#header; }
 
   /**
    * The bytes from `from` to `to` of a file, all of them, and what `bind` makes of them.
@@ -106,8 +114,8 @@ export class Archive {
   /** @param {Fields} fields */
   #readSparseIndex(fields) {
     for (let start = 0, i = 0; i << this.#pageShift < this.leaves; i++) {
-      const size = fields.u32(), first = fields.take(fields.u8());
-      this.#pages.push({ first, start, end: start + size });
+      const size = fields.u32(), term = fields.take(fields.u8());
+      this.#pages.push({ term, start, end: start + size });
       start += size;
     }
     fields.end();
@@ -168,30 +176,19 @@ export class Archive {
    * @param {Uint8Array} term
    */
   async find(term) {
-    let low = 0, high = this.#pages.length;
-    while (high - low > 1) {
-      const middle = low + high >> 1;
-      if (compareBytes(this.#pages[middle].first, term) <= 0) low = middle;
-      else high = middle;
-    }
-    const page = await this.#page(low), found = neighbours(page, term);
+    const number = Math.max(countUpTo(this.#pages, term) - 1, 0), found = neighbours(await this.#page(number), term);
     if (found.length === 1) return found;
-    const [below, above] = found, isLast = low + 1 === this.#pages.length;
-    const next = above ?? (isLast ? undefined : (await this.#page(low + 1))[0]);
+    const [below, above] = found, isLast = number + 1 === this.#pages.length;
+    const next = above ?? (isLast ? undefined : (await this.#page(number + 1))[0]);
     // The first terms of pages are the host's word, so the term may be on another page.
     if (!below || !next || compareBytes(next.term, term) <= 0) throw hostFault('wrong', 'head', 'terms out of order');
     return [below, next];
   }
 
-  /** @param {DictionaryLeaf} leaf */
-  list(leaf) {
-    return new InvertedList(this, leaf);
-  }
-
   // --- documents ---
 
   /**
-   * A group of documents: for each where it begins and ends in its file, and its record, of `size` bytes.
+   * Of a group of documents: for each its record, of `size` bytes, and where it begins and ends in its file.
    * @param {KnownTree} tree
    * @param {string} name
    * @param {number} number
@@ -201,14 +198,13 @@ export class Archive {
    */
   #group(tree, name, number, size, digestOf) {
     return this.#once(`${name} ${number}`, () => {
-      const members = 1 << GROUP_SHIFT, position = number << GROUP_SHIFT,
-            count = Math.min(members, this.documents - position);
-      const depth = 32 - Math.clz32(this.documents - 1 >>> GROUP_SHIFT),
-            room = 4 * (members + 1) + size * members + DIGEST * depth;
+      const position = number << GROUP_SHIFT, count = Math.min(GROUP, this.documents - position);
+      const depth = 32 - Math.clz32(this.documents - 1 >>> GROUP_SHIFT);
+      const room = 4 * (GROUP + 1) + size * GROUP + DIGEST * depth;
       return this.range(name, number * room, (number + 1) * room, bytes => {
         const fields = new Fields(name, bytes);
-        const begins = Array.from({ length: members + 1 }, () => fields.u32());
-        const records = Array.from({ length: members }, () => fields.take(size)).slice(0, count);
+        const begins = Array.from({ length: GROUP + 1 }, () => fields.u32());
+        const records = Array.from({ length: GROUP }, () => fields.take(size)).slice(0, count);
         const path = fields.digests(besides(this.documents, position, count).length);
         if (!tree.add(position, records.map(digestOf), path)) throw hostFault('wrong', name, `group ${number}`);
         return records.map((record, i) => ({ record, from: begins[i], to: begins[i + 1] }));
@@ -217,23 +213,12 @@ export class Archive {
   }
 
   /**
-   * @param {KnownTree} tree
-   * @param {string} name
-   * @param {number} doc
-   * @param {number} size
-   * @param {(record: Uint8Array) => Uint8Array} digestOf
-   */
-  async #member(tree, name, doc, size, digestOf) {
-    const group = await this.#group(tree, name, doc >> GROUP_SHIFT, size, digestOf);
-    return group[doc & (1 << GROUP_SHIFT) - 1];
-  }
-
-  /**
    * The bytes of a document's text.
    * @param {number} doc
    */
   async text(doc) {
-    const { record, from, to } = await this.#member(this.textsTree, 'texts-tree', doc, DIGEST, digest => digest);
+    const group = await this.#group(this.textsTree, 'texts-tree', doc >> GROUP_SHIFT, DIGEST, digest => digest);
+    const { record, from, to } = group[doc % GROUP];
     if (to < from || to - from > MOST_TEXT) throw hostFault('long', 'texts-tree', `text ${doc}`);
     return this.range('texts', from, to, text => {
       if (!same(leafDigest(text), record)) throw hostFault('wrong', 'texts', `text ${doc}`);
@@ -246,10 +231,11 @@ export class Archive {
    * @param {number} doc
    */
   async termsOf(doc) {
-    const { record, from, to } = await this.#member(this.documentsTree, 'documents-tree', doc, 4 + DIGEST, leafDigest);
-    const count = new Fields('documents-tree', record).u32(), root = record.subarray(4);
-    if (to < from || to - from > count * (1 + MOST_TERM + 2))
-      throw hostFault('long', 'documents-tree', `terms of ${doc}`);
+    const name = 'documents-tree', size = 4 + DIGEST;
+    const group = await this.#group(this.documentsTree, name, doc >> GROUP_SHIFT, size, leafDigest);
+    const { record, from, to } = group[doc % GROUP];
+    const count = new Fields(name, record).u32(), root = record.subarray(4);
+    if (to < from || to - from > count * (1 + MOST_TERM + 2)) throw hostFault('long', name, `terms of ${doc}`);
     return this.range('terms', from, to, bytes => {
       const fields = new Fields('terms', bytes);
       const leaves = Array.from({ length: count }, (_, position) => termsLeaf(fields, position));

@@ -1,15 +1,13 @@
 // Questions: what a source answers to them, what the check says of that, and what texts show. Not proved.
 
 import { bytesOfHex, hex } from './bytes.mjs';
-import { catalogFile, proofsIn } from './catalog.mjs';
-import { Fault } from './fault.mjs';
+import { Fault, throwOthers } from './fault.mjs';
 import { isCatalog, nameOf, placeOf } from './places.mjs';
 import { reasonOf } from './sentences.mjs';
-import { shownBy } from './shown.mjs';
+import { catalogFile, proofsIn, shownBy } from './shown.mjs';
 
 /**
- * @typedef {import('./calls.mjs').How} How
- * @typedef {import('./calls.mjs').Calls} Calls
+ * @typedef {import('./question.mjs').How} How
  *
  * @typedef {object} Question
  * @property {string} root
@@ -52,7 +50,7 @@ export class Asking {
   #shards = new Map();
 
   /**
-   * @param {Calls} checks
+   * @param {import('./calls.mjs').Calls} checks
    * @param {import('./source.mjs').Source} source
    */
   constructor(checks, source) {
@@ -66,7 +64,7 @@ export class Asking {
    * @param {AbortSignal} [signal]
    */
   async shards(root, signal) {
-    const found = this.#shards.get(root) ?? await this.#source.roots({ root }, { signal });
+    const found = this.#shards.get(root) ?? await this.#source.ask('roots', { root }, { signal });
     if (!await this.#isOf(root, found, signal)) {
       throw new Fault('wrong', 'host: the roots of the archives: of another catalog',
         { said: 'The host’s list of archives is not this catalog’s. Ask another host, and tell the owner.' });
@@ -76,10 +74,10 @@ export class Asking {
   }
 
   /**
+   * The newest root that is published, if there is any.
    * @param {string} root
-   * @returns {Promise<{ root: string, name: string, titles: boolean } | undefined>} the newest one that is published
    */
-  newest(root) { return this.#source.newest({ root }).catch(() => undefined); }
+  newest(root) { return this.#source.ask('newest', { root }).catch(() => undefined); }
 
   /** Whether these are the roots of the archives under a root. */
   async #isOf(root, shards, signal) {
@@ -138,7 +136,7 @@ export class Asking {
   async growth(root, offered, signal) {
     let at = root, before, after;
     try {
-      for (const { from, to, file } of await this.#source.growth({ from: root, to: offered }, { signal })) {
+      for (const { from, to, file } of await this.#source.ask('growth', { from: root, to: offered }, { signal })) {
         if (from !== at) return { kind: 'other' };
         const got = await this.#checks.call('growth', [file, bytesOfHex(from), bytesOfHex(to)], { signal });
         if (got.status !== 0) return { kind: 'refused', got };
@@ -147,7 +145,7 @@ export class Asking {
         at = to;
       }
     } catch (fault) {
-      if (!(fault instanceof Fault) || fault.word !== 'missing') throw fault;
+      throwOthers(fault, 'missing');
     }
     return at === offered && before !== undefined ? { kind: 'grown', before, after } : { kind: 'other' };
   }
@@ -180,8 +178,8 @@ export class Asking {
    */
   async answer(question, words, how) {
     const { root, r, way } = question, { terms } = words, start = performance.now();
-    const shards = await this.shards(root, how.signal), isBest = way === 'best', asked = { roots: shards, terms, r };
-    const found = await (isBest ? this.#source.ranked(asked, how) : this.#source.both(asked, how));
+    const shards = await this.shards(root, how.signal), isBest = way === 'best';
+    const found = await this.#source.ask(isBest ? 'ranked' : 'both', { roots: shards, terms, r }, how);
     const proofs = isBest && isCatalog({ root, shards }) ? [catalogFile(shards, found)] : found;
     const ms = performance.now() - start;
     return this.judged({ ...question, words, shards, proofs, texts: new Map(), titles: false, ms }, how.signal);
@@ -213,23 +211,12 @@ export class Asking {
    * @returns {Promise<{ got: any, read: any, size: number }>}
    */
   async read(answer, call, name, words, signal) {
-    const { shards, texts } = answer, { shard, doc } = placeOf(name);
-    const file = texts.get(name) ?? await this.#text(answer, shards[shard], doc, signal);
-    const it = await this.#checks.call(call, [file, bytesOfHex(shards[shard]), doc, ...words], { signal });
+    const { shards, texts, from } = answer, { shard, doc } = placeOf(name), root = shards[shard], kept = texts.get(name);
+    if (from && !kept) throw new Fault('missing', 'no text in the file', { said: 'The saved file does not have it.' });
+    const file = kept ?? await this.#source.ask('text', { root, doc }, { signal });
+    const it = await this.#checks.call(call, [file, bytesOfHex(root), doc, ...words], { signal });
     if (it.got.status === 0 && call !== 'holds') texts.set(name, file);
     return { ...it, size: file.length };
-  }
-
-  /**
-   * The file of a text of an archive.
-   * @param {Answer} answer
-   * @param {string} root
-   * @param {number} doc
-   * @param {AbortSignal} signal
-   */
-  async #text({ from }, root, doc, signal) {
-    if (from) throw new Fault('missing', 'no text in the file', { said: 'The saved file does not have it.' });
-    return this.#source.text({ root, doc }, { signal });
   }
 
   /**

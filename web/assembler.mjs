@@ -4,7 +4,7 @@
 import { Archive } from './archive.mjs';
 import { bytesOfHex } from './bytes.mjs';
 import { MemoryCache } from './cache.mjs';
-import { Fault } from './fault.mjs';
+import { Fault, throwOthers } from './fault.mjs';
 import { both, ranked, text } from './proofs.mjs';
 import { newest, rootsOf, way } from './publications.mjs';
 import { LIMITS, Question, Reader } from './question.mjs';
@@ -12,34 +12,30 @@ import { ofShards } from './shards.mjs';
 
 /**
  * @typedef {import('./question.mjs').Host} Host
- * @typedef {{ signal?: AbortSignal, progress?: (it: object) => void }} How
+ * @typedef {import('./question.mjs').How} How
  * @typedef {import('./check.mjs').Term} Term
  */
-
-/** Bytes that do not fit, for which what is kept somewhere may be to blame. */
-const MISFITS = ['wrong', 'cut', 'long', 'missing'];
 
 export class Assembler {
   #hosts; #cache; #limits;
 
   /**
    * @param {Host[]} hosts have the same folders, and are tried in this order
-   * @param {{ cache?: import('./cache.mjs').Cache, limits?: import('./question.mjs').Limits }} [more]
+   * @param {{ cache?: import('./cache.mjs').Cache, limits?: Partial<import('./question.mjs').Limits> }} more
    */
-  constructor(hosts, more = {}) {
+  constructor(hosts, { cache = new MemoryCache(), limits = {} } = {}) {
     this.#hosts = [...hosts];
-    this.#cache = more.cache ?? new MemoryCache();
-    this.#limits = more.limits ?? LIMITS;
+    this.#cache = cache;
+    this.#limits = { ...LIMITS, ...limits };
   }
 
   /**
    * The roots of the archives under a root: those of a catalog, or the root itself.
    * @param {{ root: string }} asked
    * @param {How} [how]
-   * @returns {Promise<string[]>}
    */
   roots({ root }, how) {
-    return this.#asked(how, async question => {
+    return new Question(this.#limits, how).ended(async question => {
       const own = () => this.#fromArchives([root], question, async () => [root]);
       const listed = () => this.#fromHosts(host => rootsOf(host, root, question));
       return ifMissing(own, () => ifMissing(listed, async () => [root]));
@@ -53,8 +49,7 @@ export class Assembler {
    * @param {How} [how]
    */
   ranked({ roots, terms, r }, how) {
-    return this.#asked(
-      how, question => this.#fromArchives(roots, question, archives => ranked(archives, terms, r)));
+    return this.#assembled(roots, how, archives => ranked(archives, terms, r));
   }
 
   /**
@@ -63,9 +58,7 @@ export class Assembler {
    * @param {How} [how]
    */
   both({ roots, terms }, how) {
-    const most = this.#limits.documents;
-    return this.#asked(
-      how, question => this.#fromArchives(roots, question, archives => both(archives, terms, most)));
+    return this.#assembled(roots, how, archives => both(archives, terms, this.#limits.documents));
   }
 
   /**
@@ -73,37 +66,39 @@ export class Assembler {
    * @param {{ root: string, doc: number }} asked
    * @param {How} [how]
    */
-  text({ root, doc }, how) {
-    return this.#asked(how, question => this.#fromArchives([root], question, ([own]) => text(own, doc)));
-  }
+  text({ root, doc }, how) { return this.#assembled([root], how, ([own]) => text(own, doc)); }
 
   /**
    * The newest root that the owner publishes beside the folders for the archive of this root, or undefined.
    * @param {{ root: string }} asked
    * @param {How} [how]
    */
-  newest({ root }, how) {
-    return this.#asked(how, question => this.#fromHosts(host => newest(host, root, question)));
-  }
+  newest({ root }, how) { return this.#published(how, (host, question) => newest(host, root, question)); }
 
   /**
    * The files of growths from a root to a later one, in order.
    * @param {{ from: string, to: string }} asked
    * @param {How} [how]
    */
-  growth({ from, to }, how) {
-    return this.#asked(how, question => this.#fromHosts(host => way(host, from, to, question)));
-  }
-
-  close() { return this.#cache.close(); }
+  growth({ from, to }, how) { return this.#published(how, (host, question) => way(host, from, to, question)); }
 
   /**
    * @template Made
    * @param {How | undefined} how
-   * @param {(question: Question) => Promise<Made>} work
+   * @param {(host: Host, question: Question) => Promise<Made>} read
    */
-  #asked(how, work) {
-    return new Question(this.#limits, how).ended(work);
+  #published(how, read) {
+    return new Question(this.#limits, how).ended(question => this.#fromHosts(host => read(host, question)));
+  }
+
+  /**
+   * @template Made
+   * @param {string[]} roots
+   * @param {How | undefined} how
+   * @param {(archives: Archive[]) => Promise<Made>} make
+   */
+  #assembled(roots, how, make) {
+    return new Question(this.#limits, how).ended(question => this.#fromArchives(roots, question, make));
   }
 
   /**
@@ -121,9 +116,9 @@ export class Assembler {
       try {
         return await made(host, false);
       } catch (fault) {
-        if (!(fault instanceof Fault) || !MISFITS.includes(fault.word)) throw fault;
+        // Bytes do not fit: a cache may have kept what once did not, or another host gave a wrong place in a head.
+        throwOthers(fault, 'wrong', 'cut', 'long', 'missing');
       }
-      // A cache may have kept what once did not fit, or places in a head or a page that another host gave may be wrong.
       await Promise.all(roots.map(root => this.#cache.forget(root)));
       host.forget();
       return made(host, true);
@@ -159,6 +154,6 @@ export class Assembler {
  * @param {() => Promise<Made>} otherwise what is done if that is not there
  */
 const ifMissing = (first, otherwise) => first().catch(fault => {
-  if (!(fault instanceof Fault) || fault.word !== 'missing') throw fault;
+  throwOthers(fault, 'missing');
   return otherwise();
 });

@@ -4,14 +4,13 @@ import { answering } from './answering.mjs';
 import { Assembler } from './assembler.mjs';
 import { StoredCache } from './cache.mjs';
 import { HttpHost } from './http.mjs';
-import { LIMITS } from './question.mjs';
 
 /** @type {Promise<Assembler>} */
 let assembler;
 
 /** @param {{ bases: string[] }} start addresses of hosts */
 async function opened({ bases }) {
-  return new Assembler(bases.map(base => new HttpHost(base, LIMITS)), { cache: await StoredCache.open() });
+  return new Assembler(bases.map(base => new HttpHost(base)), { cache: await StoredCache.open() });
 }
 
 answering(start => { assembler = opened(start); }, async (call, words, how) => (await assembler)[call](words, how));

@@ -10,39 +10,28 @@ const NAME = 'ats-ranges', RANGES = 'ranges', SIZES = 'sizes', WAIT_MS = 50, PAT
  * @property {(key: string) => Promise<Uint8Array | undefined>} get
  * @property {(key: string, bytes: Uint8Array) => void} put
  * @property {(folder: string) => Promise<void>} forget what lies in the folders whose names begin like this
- * @property {() => Promise<void>} close
  */
 
 export class MemoryCache {
-  #most; #size = 0;
+  #size = 0;
   /** @type {Map<string, Uint8Array>} */
   #ranges = new Map();
 
-  /** @param {number} [most] bytes */
-  constructor(most = MOST_MEMORY) {
-    this.#most = most;
-  }
-
-  /** @param {string} key */
+  /** @type {Cache['get']} */
   async get(key) { return this.#ranges.get(key); }
 
-  /**
-   * @param {string} key
-   * @param {Uint8Array} bytes
-   */
+  /** @type {Cache['put']} */
   put(key, bytes) {
-    if (this.#size + bytes.length > this.#most) { this.#ranges.clear(); this.#size = 0; }
-    if (bytes.length > this.#most) return;
+    if (this.#size + bytes.length > MOST_MEMORY) { this.#ranges.clear(); this.#size = 0; }
+    if (bytes.length > MOST_MEMORY) return;
     this.#ranges.set(key, bytes);
     this.#size += bytes.length;
   }
 
-  /** @param {string} folder */
+  /** @type {Cache['forget']} */
   async forget(folder) {
     for (const key of this.#ranges.keys()) if (key.startsWith(folder)) this.#ranges.delete(key);
   }
-
-  async close() {}
 }
 
 /**
@@ -60,37 +49,28 @@ const settled = request => new Promise((done, failed) => {
 
 /** In front of the store is a memory. A store that fails keeps nothing, is no fault, and is not read again. */
 export class StoredCache {
-  #store; #most; #answers = true;
+  #store; #answers = true;
   #memory = new MemoryCache();
   /** @type {Map<string, Uint8Array>} */
   #coming = new Map();
-  /** @type {ReturnType<typeof setTimeout> | undefined} */
-  #timer;
 
-  /**
-   * @param {IDBDatabase} store
-   * @param {number} most bytes
-   */
-  constructor(store, most) {
+  /** @param {IDBDatabase} store */
+  constructor(store) {
     this.#store = store;
-    this.#most = most;
     store.onversionchange = () => store.close();
   }
 
-  static async open(most = MOST_STORED) {
+  static async open() {
     try {
       const opening = indexedDB.open(NAME, 1);
       opening.onupgradeneeded = () => [RANGES, SIZES].forEach(name => opening.result.createObjectStore(name));
-      return new StoredCache(await settled(opening), most);
+      return new StoredCache(await settled(opening));
     } catch {
       return new MemoryCache();
     }
   }
 
-  /**
-   * @param {string} key
-   * @returns {Promise<Uint8Array | undefined>}
-   */
+  /** @type {Cache['get']} */
   async get(key) {
     const near = await this.#memory.get(key);
     if (near || !this.#answers) return near;
@@ -104,30 +84,29 @@ export class StoredCache {
 
   /**
    * What comes within a moment is stored at once.
-   * @param {string} key
-   * @param {Uint8Array} bytes
+   * @type {Cache['put']}
    */
   put(key, bytes) {
     this.#memory.put(key, bytes);
-    if (this.#coming.size === 0) this.#timer = setTimeout(() => this.#storeAll(), WAIT_MS);
+    if (this.#coming.size === 0) setTimeout(() => this.#storeAll(), WAIT_MS);
     this.#coming.set(key, bytes);
   }
 
   async #storeAll() {
     const coming = [...this.#coming], added = coming.reduce((sum, [, bytes]) => sum + bytes.length, 0);
     this.#coming.clear();
-    if (added > this.#most) return;
+    if (added > MOST_STORED) return;
     try {
       const both = this.#store.transaction([RANGES, SIZES], 'readwrite');
-      const ranges = both.objectStore(RANGES), sizes = both.objectStore(SIZES),
-            before = await settled(sizes.get('all')) ?? 0;
-      if (before + added > this.#most) ranges.clear();
+      const ranges = both.objectStore(RANGES), sizes = both.objectStore(SIZES);
+      const before = await settled(sizes.get('all')) ?? 0, isFull = before + added > MOST_STORED;
+      if (isFull) ranges.clear();
       for (const [key, bytes] of coming) ranges.put(bytes, key);
-      await settled(sizes.put(before + added > this.#most ? added : before + added, 'all'));
+      await settled(sizes.put(isFull ? added : before + added, 'all'));
     } catch { /* then it is read again */ }
   }
 
-  /** @param {string} folder */
+  /** @type {Cache['forget']} */
   async forget(folder) {
     await this.#memory.forget(folder);
     for (const key of this.#coming.keys()) if (key.startsWith(folder)) this.#coming.delete(key);
@@ -135,11 +114,5 @@ export class StoredCache {
       const ranges = this.#store.transaction(RANGES, 'readwrite').objectStore(RANGES);
       await settled(ranges.delete(IDBKeyRange.bound(folder, `${folder}\uffff`)));
     } catch { /* then a later question forgets it */ }
-  }
-
-  async close() {
-    clearTimeout(this.#timer);
-    await this.#storeAll();
-    this.#store.close();
   }
 }

@@ -17,7 +17,7 @@ export function workersOf(file) {
 }
 
 /**
- * @typedef {{ signal?: AbortSignal, progress?: (it: any) => void }} How
+ * @typedef {import('./question.mjs').How} How
  * @typedef {{ message: object, done: (got: any) => void, failed: (why: any) => void, progress: (it: any) => void }}
  *   Waiting
  */
@@ -29,15 +29,12 @@ export class Calls {
   #worker;
   /** @type {Map<number, Waiting>} */
   #waiting = new Map();
-  /** @type {Fault | undefined} */
-  #closed;
 
   /**
    * @param {() => Worker} make
    * @param {object} start what the worker gets first
    * @param {boolean} stops whether a call can be stopped in the worker; if not, a stop ends the worker, and another
-   *   one gets the
-   *   calls that are left
+   *   one gets the calls that are left
    */
   constructor(make, start, stops) {
     this.#make = make;
@@ -48,13 +45,11 @@ export class Calls {
   /**
    * @param {string} call
    * @param {unknown} words
-   * @param {How} [how]
+   * @param {How} how
    * @returns {Promise<any>}
    */
-  async call(call, words, how = {}) {
-    const { signal, progress = () => {} } = how;
-    if (signal?.aborted) throw signal.reason;
-    if (this.#closed) throw this.#closed;
+  async call(call, words, { signal, progress = () => {} } = {}) {
+    signal?.throwIfAborted();
     const id = ++this.#last, stop = () => this.#stop(id, signal?.reason);
     signal?.addEventListener('abort', stop);
     try {
@@ -69,16 +64,11 @@ export class Calls {
     }
   }
 
-  close() {
-    this.#closed = new Fault('link', 'closed');
-    this.#end(this.#closed);
-  }
-
   /** Makes a worker, which gets all calls that wait. */
   #begin() {
     this.#worker = this.#make();
     this.#worker.addEventListener('message', ({ data }) => this.#came(data));
-    this.#worker.addEventListener('error', () => this.#end(new Fault('stopped', 'the worker ended')));
+    this.#worker.addEventListener('error', () => this.#ended());
     this.#worker.postMessage({ start: this.#start });
     this.#waiting.forEach(({ message }) => this.#worker?.postMessage(message));
   }
@@ -96,22 +86,18 @@ export class Calls {
    * @param {unknown} why
    */
   #stop(id, why) {
-    const waiting = this.#waiting.get(id);
-    if (!waiting) return;
-    this.#waiting.delete(id);
-    waiting.failed(why);
+    this.#waiting.get(id)?.failed(why);
+    if (!this.#waiting.delete(id)) return;
     if (this.#stops) return this.#worker?.postMessage({ stop: id });
     this.#worker?.terminate();
     this.#worker = undefined;
     if (this.#waiting.size) this.#begin();
   }
 
-  /** @param {Fault} why */
-  #end(why) {
+  #ended() {
     this.#worker?.terminate();
     this.#worker = undefined;
-    const waiting = [...this.#waiting.values()];
+    this.#waiting.forEach(({ failed }) => failed(new Fault('stopped', 'the worker ended')));
     this.#waiting.clear();
-    waiting.forEach(({ failed }) => failed(why));
   }
 }

@@ -25,8 +25,18 @@ export class Fault extends Error {
 /**
  * A host failed over a file of the archive.
  * @param {string} word
- * @param {string} file
+ * @param {string} path of the file
  * @param {string} what
  * @param {unknown} [cause]
  */
-export const hostFault = (word, file, what, cause) => new Fault(word, `host: ${file}: ${what}`, { cause });
+export const hostFault = (word, path, what, cause) =>
+  new Fault(word, `host: ${path.replace(/.*\//, '')}: ${what}`, { cause });
+
+/**
+ * Throws what is no Fault of one of these words.
+ * @param {unknown} fault
+ * @param {string[]} words
+ */
+export function throwOthers(fault, ...words) {
+  if (!(fault instanceof Fault && words.includes(fault.word))) throw fault;
+}

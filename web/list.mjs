@@ -37,14 +37,12 @@ export class InvertedList {
     this.impacts = new Uint16Array(documents);
   }
 
-  get whole() { return this.known === this.length; }
-
   /**
    * Reads on, until so many entries are here, or a few more of a block.
    * @param {number} entries
    */
   async upTo(entries) {
-    if (this.whole || entries <= this.known) return;
+    if (Math.min(entries, this.length) <= this.known) return;
     const from = this.known / ENTRIES * ROOM, most = sizeOfList(this.length);
     const to = Math.min(Math.ceil(entries / ENTRIES) * ROOM, most);
     await this.#archive.range('lists', this.#at + from, this.#at + to, bytes => {

@@ -4,18 +4,17 @@
 
 import { neighbours } from './archive.mjs';
 import { Fault } from './fault.mjs';
+import { InvertedList } from './list.mjs';
 import { ofShards } from './shards.mjs';
 import { idf, walk } from './walk.mjs';
 
 const FORMAT = 2, TRA = 1, TNRA = 2, MOST_PROOF = 2 ** 26;
-/** @param {string} text */
-const ascii = text => Uint8Array.from([...text].map(sign => sign.charCodeAt(0)));
 
 /**
  * @typedef {import('./archive.mjs').Archive} Archive
  * @typedef {import('./archive.mjs').Leaf} Leaf
+ * @typedef {import('./archive.mjs').DictionaryLeaf} DictionaryLeaf
  * @typedef {import('./check.mjs').Term} Term
- * @typedef {{ leaves: Leaf[], slots: { present: boolean, index: number }[] }} Section
  */
 
 class Writer {
@@ -45,60 +44,52 @@ class Writer {
   u32(value) { const at = this.#room(4); this.#view.setUint32(at, value); }
   /** @param {Uint8Array} bytes */
   put(bytes) { const at = this.#room(bytes.length); this.#bytes.set(bytes, at); }
-  /** @param {Uint8Array[]} digests */
-  digests(digests) { digests.forEach(digest => this.put(digest)); }
+
+  /**
+   * Digests with their number before them.
+   * @param {'u8' | 'u16' | 'u32'} width of their number
+   * @param {Uint8Array[]} digests
+   */
+  digests(width, digests) {
+    this[width](digests.length);
+    digests.forEach(digest => this.put(digest));
+  }
+
+  /**
+   * How every file begins.
+   * @param {string} magic
+   * @param {number[]} fields
+   * @param {Archive} archive
+   */
+  begin(magic, fields, { header }) {
+    this.put(Uint8Array.from([...magic].map(sign => sign.charCodeAt(0))));
+    fields.forEach(field => this.u8(field));
+    this.put(header);
+  }
+
   done() { return this.#bytes.slice(0, this.#length); }
 }
 
 /**
- * The leaves that show all terms, each once, in order, and a slot for each term. `found` has the one or two leaves of
- * each term.
- * @param {Leaf[][]} found
- * @returns {Section}
- */
-function sectionOf(found) {
-  const distinct = new Map(found.flat().map(leaf => [leaf.position, leaf]));
-  const leaves = [...distinct.values()].sort((a, b) => a.position - b.position);
-  const places = new Map(leaves.map((leaf, i) => [leaf.position, i]));
-  return { leaves, slots: found.map(own => ({ present: isPresent(own), index: places.get(own[0].position) ?? 0 })) };
-}
-
-/**
+ * The leaves that show all terms, each once, in order, with what is beside them, and for each term where it is.
  * @param {Writer} writer
- * @param {Section} section
+ * @param {Leaf[][]} found the one or two leaves of each term
  * @param {import('./tree.mjs').KnownTree} tree
  */
-function putSection(writer, { leaves }, tree) {
-  writer.u16(leaves.length);
-  for (const leaf of leaves) {
-    writer.u32(leaf.position);
-    writer.put(leaf.bytes);
+function putSection(writer, found, tree) {
+  const distinct = new Map(found.flat().map(leaf => [leaf.position, leaf]));
+  const positions = [...distinct.keys()].sort((a, b) => a - b);
+  writer.u16(positions.length);
+  for (const position of positions) {
+    writer.u32(position);
+    writer.put(/** @type {Leaf} */ (distinct.get(position)).bytes);
   }
-  const beside = tree.beside(leaves.map(leaf => leaf.position));
-  writer.u16(beside.length);
-  writer.digests(beside);
-}
-
-/**
- * @param {Writer} writer
- * @param {Section} section
- */
-function putSlots(writer, { slots }) {
-  for (const { present, index } of slots) {
-    writer.u8(present ? 1 : 0);
-    writer.u16(index);
+  writer.digests('u16', tree.beside(positions));
+  const places = new Map(positions.map((position, i) => [position, i]));
+  for (const own of found) {
+    writer.u8(isPresent(own) ? 1 : 0);
+    writer.u16(places.get(own[0].position) ?? 0);
   }
-}
-
-/**
- * For each met document its place among them.
- * @param {number[]} met
- * @param {number} documents
- */
-function placesOf(met, documents) {
-  const places = new Uint32Array(documents);
-  met.forEach((doc, place) => { places[doc] = place; });
-  return places;
 }
 
 /**
@@ -107,29 +98,28 @@ function placesOf(met, documents) {
  * @param {number} algorithm
  * @param {Leaf[][]} found
  * @param {number[]} met
- * @param {import('./list.mjs').InvertedList[]} lists
+ * @param {InvertedList[]} lists
  * @param {number[]} cut
  */
 function startProof(archive, algorithm, found, met, lists, cut) {
-  const writer = new Writer(), section = sectionOf(found), places = placesOf(met, archive.documents);
-  writer.put(ascii('ATSP'));
-  writer.u8(FORMAT);
-  writer.u8(algorithm);
-  writer.put(archive.header);
+  const writer = new Writer(), places = new Uint32Array(archive.documents);
+  writer.begin('ATSP', [FORMAT, algorithm], archive);
   writer.u16(found.length);
-  putSection(writer, section, archive.dictionary);
-  putSlots(writer, section);
+  putSection(writer, found, archive.dictionary);
   writer.u32(met.length);
-  met.forEach(doc => writer.u32(doc));
+  met.forEach((doc, place) => {
+    writer.u32(doc);
+    places[doc] = place;
+  });
   lists.forEach((list, i) => putPrefix(writer, list, cut[i], places));
   return { writer, places };
 }
 
 /**
  * @param {Writer} writer
- * @param {import('./list.mjs').InvertedList} list
+ * @param {InvertedList} list
  * @param {number} shown
- * @param {Uint32Array} places
+ * @param {Uint32Array} places of the met documents among them
  */
 function putPrefix(writer, list, shown, places) {
   writer.u32(shown);
@@ -137,9 +127,7 @@ function putPrefix(writer, list, shown, places) {
     writer.u32(places[list.docs[i]]);
     writer.u16(list.impacts[i]);
   }
-  const beside = list.beside(shown);
-  writer.u16(beside.length);
-  writer.digests(beside);
+  writer.digests('u16', list.beside(shown));
 }
 
 /**
@@ -160,33 +148,26 @@ export async function ranked(archives, terms, r) {
   const found = await ofShards(archives, archive => find(archive, terms));
   const shards = archives.map((own, i) => ({ lanes: lanesOf(own, terms, found[i]), documents: own.documents }));
   const settled = await walk(shards, r);
-  return archives.map((archive, i) => written(archive, found[i], shards[i].lanes, settled[i]));
+  return archives.map((archive, i) => {
+    const { cut, rows, met } = settled[i], lists = shards[i].lanes.map(({ list }) => list);
+    const { writer, places } = startProof(archive, TNRA, found[i], met, lists, cut);
+    writer.u16(rows.length);
+    rows.forEach(doc => writer.u32(places[doc]));
+    return writer.done();
+  });
 }
 
 /**
  * @param {Archive} archive
  * @param {Term[]} terms
- * @param {import('./archive.mjs').DictionaryLeaf[][]} found
+ * @param {DictionaryLeaf[][]} found
  * @returns {import('./walk.mjs').Lane[]}
  */
 const lanesOf = (archive, terms, found) => terms.flatMap(({ weight }, i) => {
   const [leaf] = found[i];
   if (!isPresent(found[i])) return [];
-  return [{ list: archive.list(leaf), coefficient: weight * idf(archive.documents, leaf.documents) }];
+  return [{ list: new InvertedList(archive, leaf), coefficient: weight * idf(archive.documents, leaf.documents) }];
 });
-
-/**
- * @param {Archive} archive
- * @param {Leaf[][]} found
- * @param {import('./walk.mjs').Lane[]} lanes
- * @param {import('./walk.mjs').Settled} settled
- */
-function written(archive, found, lanes, { cut, rows, met }) {
-  const { writer, places } = startProof(archive, TNRA, found, met, lanes.map(({ list }) => list), cut);
-  writer.u16(rows.length);
-  rows.forEach(doc => writer.u32(places[doc]));
-  return writer.done();
-}
 
 /**
  * The file of a document's text.
@@ -195,14 +176,11 @@ function written(archive, found, lanes, { cut, rows, met }) {
  */
 export async function text(archive, doc) {
   if (!(doc < archive.documents)) throw new Fault('missing', `input: document ${doc}`);
-  const bytes = await archive.text(doc), writer = new Writer(), beside = archive.textsTree.beside([doc]);
-  writer.put(ascii('ATSF'));
-  writer.u8(FORMAT);
-  writer.put(archive.header);
+  const bytes = await archive.text(doc), writer = new Writer();
+  writer.begin('ATSF', [FORMAT], archive);
   writer.u32(bytes.length);
   writer.put(bytes);
-  writer.u8(beside.length);
-  writer.digests(beside);
+  writer.digests('u8', archive.textsTree.beside([doc]));
   return writer.done();
 }
 
@@ -210,7 +188,7 @@ export async function text(archive, doc) {
  * Of the lists of all terms the shortest one is shown whole, of the others an entry. If a term is absent, one entry of
  * each.
  * @param {Term[]} terms
- * @param {import('./list.mjs').InvertedList[]} lists
+ * @param {InvertedList[]} lists
  */
 function cutOfAll(terms, lists) {
   if (lists.length < terms.length) return lists.map(() => 1);
@@ -228,7 +206,7 @@ function cutOfAll(terms, lists) {
 export async function both(archives, terms, most) {
   const parts = await ofShards(archives, async archive => {
     const found = await find(archive, terms), present = found.filter(isPresent).map(([leaf]) => leaf);
-    const lists = present.map(leaf => archive.list(leaf)), cut = cutOfAll(terms, lists);
+    const lists = present.map(leaf => new InvertedList(archive, leaf)), cut = cutOfAll(terms, lists);
     return { archive, found, present, lists, cut };
   });
   const shown = parts.flatMap(({ cut }) => cut).reduce((sum, count) => sum + count, 0);
@@ -244,14 +222,9 @@ async function bothOf({ archive, found, present, lists, cut }) {
   const { writer } = startProof(archive, TRA, found, met, lists, cut);
   const documents = await Promise.all(met.map(doc => archive.termsOf(doc)));
   documents.forEach(({ record }) => writer.put(record));
-  const beside = archive.documentsTree.beside(met);
-  writer.u32(beside.length);
-  writer.digests(beside);
-  for (const { leaves, tree } of documents) {
-    const section = sectionOf(present.map(({ term }) => neighbours(leaves, term)));
-    putSection(writer, section, tree);
-    putSlots(writer, section);
-  }
+  writer.digests('u32', archive.documentsTree.beside(met));
+  for (const { leaves, tree } of documents)
+    putSection(writer, present.map(({ term }) => neighbours(leaves, term)), tree);
   writer.u16(0);
   return writer.done();
 }

@@ -119,17 +119,9 @@ export async function way(host, from, to, question) {
   }
   const isWhole = root === from && steps.every(step => step.name !== 'none');
   if (!isWhole) throw new Fault('missing', `host: no growth from ${from} to ${to}`);
-  const whole = async step => ({ from: step.from, to: step.to, file: await growth(host, step.name, question) });
-  return Promise.all(steps.map(whole));
-}
-
-/**
- * @param {Host} host
- * @param {string} name
- * @param {Question} question
- */
-async function growth(host, name, question) {
-  const file = await host.file(name, MOST_GROWTH, question);
-  if (!file) throw hostFault('missing', name, 'not there');
-  return file;
+  return Promise.all(steps.map(async step => {
+    const file = await host.file(step.name, MOST_GROWTH, question);
+    if (!file) throw hostFault('missing', step.name, 'not there');
+    return { from: step.from, to: step.to, file };
+  }));
 }

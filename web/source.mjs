@@ -5,12 +5,8 @@ import { Calls } from './calls.mjs';
 import { Fault } from './fault.mjs';
 import { faultWords } from './sentences.mjs';
 
-/**
- * @typedef {import('./calls.mjs').How} How
- * @typedef {import('./check.mjs').Term} Term
- */
+/** @typedef {import('./assembler.mjs').Assembler} Assembler */
 
-/** What answers the page's questions. */
 export class Source {
   #calls;
 
@@ -23,67 +19,18 @@ export class Source {
   }
 
   /**
-   * @param {string} call
-   * @param {object} words
-   * @param {How} [how]
+   * What an Assembler answers to a call.
+   * @template {keyof Assembler} Call
+   * @param {Call} call
+   * @param {Parameters<Assembler[Call]>[0]} words
+   * @param {import('./question.mjs').How} [how]
+   * @returns {Promise<Awaited<ReturnType<Assembler[Call]>>>}
    */
-  async #asked(call, words, how) {
-    try {
-      return await this.#calls.call(call, words, how);
-    } catch (fault) {
+  ask(call, words, how) {
+    return this.#calls.call(call, words, how).catch(fault => {
       throw fault instanceof Fault ? new Fault(fault.word, fault.line, { said: saidOf(fault) }) : fault;
-    }
+    });
   }
-
-  /**
-   * The roots of the archives under a root: those of a catalog, or the root itself.
-   * @param {{ root: string }} asked
-   * @param {How} [how]
-   * @returns {Promise<string[]>}
-   */
-  roots(asked, how) { return this.#asked('roots', asked, how); }
-
-  /**
-   * From each of these archives the proof of the best r documents of all.
-   * @param {{ roots: string[], terms: Term[], r: number }} asked
-   * @param {How} [how]
-   * @returns {Promise<Uint8Array[]>}
-   */
-  ranked(asked, how) { return this.#asked('ranked', asked, how); }
-
-  /**
-   * From each of these archives the proof of all its documents with every term.
-   * @param {{ roots: string[], terms: Term[] }} asked
-   * @param {How} [how]
-   * @returns {Promise<Uint8Array[]>}
-   */
-  both(asked, how) { return this.#asked('both', asked, how); }
-
-  /**
-   * The file of a text.
-   * @param {{ root: string, doc: number }} asked
-   * @param {How} [how]
-   * @returns {Promise<Uint8Array>}
-   */
-  text(asked, how) { return this.#asked('text', asked, how); }
-
-  /**
-   * The newest root that is published for the archive of this one.
-   * @param {{ root: string }} asked
-   * @param {How} [how]
-   * @returns {Promise<{ root: string, name: string, titles: boolean } | undefined>}
-   */
-  newest(asked, how) { return this.#asked('newest', asked, how); }
-
-  /**
-   * The growths that lead from a root to a later one.
-   * @param {{ from: string, to: string }} asked
-   * @param {How} [how]
-   * @returns {Promise<{ from: string, to: string, file: Uint8Array }[]>}
-   */
-  growth(asked, how) { return this.#asked('growth', asked, how); }
-
-  close() { this.#calls.close(); }
 }
 
 /**

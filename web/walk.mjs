@@ -31,55 +31,6 @@ export function idf(documents, having) {
  */
 const restOf = ({ list, coefficient }, shown) => shown === list.length ? 0 : coefficient * list.impacts[shown - 1];
 
-/** The schedule: which list each turn advances, as far as the entries go that are here. */
-class Schedule {
-  #lanes;
-  #turns = new Uint8Array(1024); // there are at most 32 lanes
-
-  /** @param {Lane[]} lanes */
-  constructor(lanes) {
-    this.#lanes = lanes;
-    this.count = 0;
-    this.shown = lanes.map(() => 1); // the cut after all turns
-  }
-
-  /** @param {number} lane */
-  #take(lane) {
-    if (this.count === this.#turns.length) {
-      const larger = new Uint8Array(2 * this.count);
-      larger.set(this.#turns);
-      this.#turns = larger;
-    }
-    this.#turns[this.count++] = lane;
-    this.shown[lane]++;
-  }
-
-  /**
-   * Goes on until the entry of the next turn is not here. Returns whether there is such an entry: false once all lists
-   * are shown.
-   */
-  run() {
-    const { shown } = this, lanes = this.#lanes, rests = lanes.map((lane, i) => restOf(lane, shown[i]));
-    for (;;) {
-      let next = -1;
-      for (let i = 0; i < lanes.length; i++) {
-        if (shown[i] < lanes[i].list.length && (next < 0 || rests[i] > rests[next])) next = i;
-      }
-      if (next < 0) return false;
-      if (shown[next] === lanes[next].list.known) return true;
-      this.#take(next);
-      rests[next] = restOf(lanes[next], shown[next]);
-    }
-  }
-
-  /** @param {number} turns */
-  cutAfter(turns) {
-    const cut = this.#lanes.map(() => 1);
-    for (let i = 0; i < turns; i++) cut[this.#turns[i]]++;
-    return cut;
-  }
-}
-
 /**
  * The r-th largest of the values of these documents, or the least if there are fewer: without sorting all.
  * @param {number} r
@@ -191,9 +142,10 @@ class Bounds {
 
 const FURTHER = 4;
 
-/** The lists of one archive, as far as they are read. */
+/** The walk along the lists of one archive: which of them each turn advances, as far as the entries go that are here. */
 class Walk {
-  #lanes; #schedule; #bounds; #goesOn = true;
+  #lanes; #bounds; #shown;
+  #lists = new Uint8Array(1024); // there are at most 32 lanes
 
   /**
    * @param {Lane[]} lanes
@@ -201,24 +153,56 @@ class Walk {
    */
   constructor(lanes, bounds) {
     this.#lanes = lanes;
-    this.#schedule = new Schedule(lanes);
     this.#bounds = bounds;
+    this.#shown = lanes.map(() => 1); // the cut after all turns
+    this.turns = 0;
+    this.goesOn = true; // false once all lists are shown
   }
-
-  get turns() { return this.#schedule.count; }
-  get goesOn() { return this.#goesOn; }
 
   /** @param {number} entries of each list */
   async upTo(entries) {
     await Promise.all(this.#lanes.map(({ list }) => list.upTo(entries)));
-    this.#goesOn = this.#schedule.run();
+    this.#run();
   }
 
   /** Reads each list on to several times its shown entries, if most of it is shown: a round costs more than bytes. */
   async readOn() {
-    const { shown } = this.#schedule, isNear = ({ list }, i) => 2 * shown[i] > list.known;
+    const shown = this.#shown, isNear = ({ list }, i) => 2 * shown[i] > list.known;
     await Promise.all(this.#lanes.map((lane, i) => isNear(lane, i) && lane.list.upTo(FURTHER * shown[i])));
-    this.#goesOn = this.#schedule.run();
+    this.#run();
+  }
+
+  /** Goes on until the entry of the next turn is not here. */
+  #run() {
+    const shown = this.#shown, lanes = this.#lanes, rests = lanes.map((lane, i) => restOf(lane, shown[i]));
+    for (;;) {
+      let next = -1;
+      for (let i = 0; i < lanes.length; i++) {
+        if (shown[i] < lanes[i].list.length && (next < 0 || rests[i] > rests[next])) next = i;
+      }
+      this.goesOn = next >= 0;
+      if (next < 0 || shown[next] === lanes[next].list.known) return;
+      this.#take(next);
+      rests[next] = restOf(lanes[next], shown[next]);
+    }
+  }
+
+  /** @param {number} lane */
+  #take(lane) {
+    if (this.turns === this.#lists.length) {
+      const larger = new Uint8Array(2 * this.turns);
+      larger.set(this.#lists);
+      this.#lists = larger;
+    }
+    this.#lists[this.turns++] = lane;
+    this.#shown[lane]++;
+  }
+
+  /** @param {number} turns */
+  #cutAfter(turns) {
+    const cut = this.#lanes.map(() => 1);
+    for (let i = 0; i < turns; i++) cut[this.#lists[i]]++;
+    return cut;
   }
 
   /**
@@ -226,7 +210,7 @@ class Walk {
    * @param {number} r
    */
   standAfter(turns, r) {
-    this.#bounds.at(this.#lanes, this.#schedule.cutAfter(turns));
+    this.#bounds.at(this.#lanes, this.#cutAfter(turns));
     return this.#bounds.stand(r);
   }
 
@@ -237,7 +221,7 @@ class Walk {
    */
   settledAfter(turns, r) {
     const rows = this.standAfter(turns, r).best.map(({ doc }) => doc);
-    return { cut: this.#schedule.cutAfter(turns), rows, met: [...this.#bounds.met.slice().sort()] };
+    return { cut: this.#cutAfter(turns), rows, met: [...this.#bounds.met.slice().sort()] };
   }
 }
 

@@ -5,7 +5,7 @@ import { execFileSync } from 'node:child_process';
 import { mkdirSync, writeFileSync } from 'node:fs';
 import { fileURLToPath } from 'node:url';
 import { Assembler } from '../assembler.mjs';
-import { catalogFile, proofsIn } from '../catalog.mjs';
+import { catalogFile, proofsIn } from '../shown.mjs';
 import { Fault } from '../fault.mjs';
 import { collections, drawer, question } from './collections.mjs';
 import { FolderHost } from './folder.mjs';

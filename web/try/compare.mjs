@@ -6,7 +6,6 @@ import { execFileSync } from 'node:child_process';
 import { mkdirSync, readFileSync, writeFileSync } from 'node:fs';
 import { fileURLToPath } from 'node:url';
 import { Assembler } from '../assembler.mjs';
-import { LIMITS } from '../question.mjs';
 import { collections, drawer, question } from './collections.mjs';
 import { FolderHost } from './folder.mjs';
 import { checkOf } from './module.mjs';
@@ -62,7 +61,7 @@ async function compareProofs(assembler, root, name, index, asked) {
 
 async function compare(name, texts, index, often) {
   const draw = drawer(seed + 1), root = readFileSync(index).subarray(-32).toString('hex');
-  const assembler = new Assembler([new FolderHost(at('folder'))], { limits: { ...LIMITS, documents: 65536 } });
+  const assembler = new Assembler([new FolderHost(at('folder'))], { limits: { documents: 65536 } });
   const asked = Array.from({ length: questions }, () => question(draw, texts)).filter(({ query }) => termsOf(query));
   await compareProofs(assembler, root, name, index, asked);
   for (const [i, { query, r }] of asked.entries()) {

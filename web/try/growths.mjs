@@ -4,11 +4,10 @@
 import { readFileSync } from 'node:fs';
 import { Assembler } from '../assembler.mjs';
 import { HttpHost } from '../http.mjs';
-import { LIMITS } from '../question.mjs';
 
 const [base, ...words] = process.argv.slice(2), roots = words.slice(0, 3),
              files = words.slice(3).map(name => readFileSync(name));
-const assembler = new Assembler([new HttpHost(base, LIMITS)]);
+const assembler = new Assembler([new HttpHost(base)]);
 let failed = 0;
 
 function see(about, right) {

@@ -8,7 +8,6 @@ import { Assembler } from '../assembler.mjs';
 import { joined } from '../bytes.mjs';
 import { MemoryCache } from '../cache.mjs';
 import { Fault } from '../fault.mjs';
-import { LIMITS } from '../question.mjs';
 import { collections, drawer, question } from './collections.mjs';
 import { FolderHost } from './folder.mjs';
 import { run } from './program.mjs';
@@ -97,7 +96,7 @@ const kinds = {
 /** What comes of a question to a liar: `ask` has the honest bytes to compare with. */
 async function outcomeOf(ask, hosts, cache) {
   try {
-    const bytes = await ask(new Assembler(hosts, { cache, limits: { ...LIMITS, total: 20000 } }));
+    const bytes = await ask(new Assembler(hosts, { cache, limits: { total: 20000 } }));
     return Buffer.compare(bytes, await ask(new Assembler([honest]))) ? 'OTHER BYTES' : 'honest';
   } catch (fault) {
     return fault instanceof Fault && fault.word && /^(host|input): [ -~]+$/.test(fault.line)

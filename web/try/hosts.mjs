@@ -7,12 +7,11 @@ import { gzipSync } from 'node:zlib';
 import { Assembler } from '../assembler.mjs';
 import { Fault } from '../fault.mjs';
 import { HttpHost } from '../http.mjs';
-import { LIMITS } from '../question.mjs';
 import { FolderHost } from './folder.mjs';
 import { termsOf } from './terms.mjs';
 
 const [folder, root, ...words] = process.argv.slice(2), terms = termsOf(words.join(' ')), r = 10;
-const limits = { ...LIMITS, silence: 2000, total: 8000 }; // a busy machine may be silent for a while itself
+const limits = { silence: 2000, total: 8000 }; // a busy machine may be silent for a while itself
 const nearly = new Assembler([new FolderHost(folder)]), roots = [root],
       [honest] = await nearly.ranked({ roots, terms, r });
 const bomb = gzipSync(Buffer.alloc(2 ** 27));
@@ -183,29 +182,29 @@ async function outcome(hosts, how) {
 }
 
 for (const [name, [answer, wanted]] of Object.entries(hosts)) {
-  const start = performance.now(), got = await served(answer, base => outcome([new HttpHost(base, limits)]));
+  const start = performance.now(), got = await served(answer, base => outcome([new HttpHost(base)]));
   const ms = performance.now() - start, late = ms > limits.total + 1500;
   see(name, wanted, late ? 'late' : got, `, ${Math.round(ms)} ms`);
 }
 const dead = 'http://127.0.0.1:9';
-see('nobody listens', 'link', await outcome([new HttpHost(dead, limits)]), '');
+see('nobody listens', 'link', await outcome([new HttpHost(dead)]), '');
 await served(good, async base => {
   for (const [name, [answer]] of Object.entries(hosts)) {
     see(`a mirror after: ${name}`, 'honest',
-      await served(answer, bad => outcome([new HttpHost(bad, limits), new HttpHost(base, limits)])), '');
+      await served(answer, bad => outcome([new HttpHost(bad), new HttpHost(base)])), '');
   }
 });
 await served(() => {}, async base => {
   const stopper = new AbortController(), start = performance.now();
   setTimeout(() => stopper.abort(), 100);
-  const got = await outcome([new HttpHost(base, limits)], { signal: stopper.signal }), ms = performance.now() - start;
+  const got = await outcome([new HttpHost(base)], { signal: stopper.signal }), ms = performance.now() - start;
   see('cancelled', 'AbortError', ms < 400 ? got : 'late', `, ${Math.round(ms)} ms`);
 });
 await served(async (request, reply) => { await pause(20); await good(request, reply); }, async (base, requests) => {
   const few = { ...limits, requests: 3 };
   const all = async () => {
     try {
-      await new Assembler([new HttpHost(base, few)], { limits: few }).both({ roots, terms });
+      await new Assembler([new HttpHost(base)], { limits: few }).both({ roots, terms });
       return 'honest';
     } catch (fault) {
       return fault.word ?? fault.stack;

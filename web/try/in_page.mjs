@@ -1,18 +1,22 @@
 // In a browser: asks a source, as the page does, what answers.mjs drew, and compares. Returns what was seen.
 
+import { bytesOfHex, hex } from './bytes.mjs';
 import { Source } from './source.mjs';
 
-const bytesOf = digits => Uint8Array.from(digits.match(/../g) ?? [], pair => parseInt(pair, 16));
-const hexOf = bytes => Array.from(bytes, byte => byte.toString(16).padStart(2, '0')).join('');
-const digestOf = async bytes => hexOf(new Uint8Array(await crypto.subtle.digest('SHA-256', bytes)));
-const termsOf = terms => terms.map(({ term, weight }) => ({ term: bytesOf(term), weight }));
-const worker = () => new Worker('/assembling.mjs', { type: 'module' });
-
-/** A source of hosts, with spaces between. */
-const open = place => new Source(worker, place.split(' '));
+const digestOf = async bytes => hex(new Uint8Array(await crypto.subtle.digest('SHA-256', bytes)));
+const termsOf = terms => terms.map(({ term, weight }) => ({ term: bytesOfHex(term), weight }));
 
 const asked = (source, { call, words: { terms, ...words } }, how) =>
-  source[call](terms ? { ...words, terms: termsOf(terms) } : words, how);
+  source.ask(call, terms ? { ...words, terms: termsOf(terms) } : words, how);
+
+/** Does something with a source of hosts, with spaces between, and how long it took. */
+async function timed(place, act) {
+  const worker = new Worker('/assembling.mjs', { type: 'module' }), source = new Source(() => worker, place.split(' '));
+  const start = performance.now(), got = await act(source), ms = Math.round(performance.now() - start);
+  await new Promise(done => setTimeout(done, 200)); // what is kept is stored within a moment
+  worker.terminate();
+  return { ...got, ms };
+}
 
 /** Forgets what the browser keeps. */
 const emptied = () => new Promise((done, failed) => {
@@ -24,9 +28,9 @@ const emptied = () => new Promise((done, failed) => {
 /** Asks all, four at a time. Returns how many were equal, what failed, and how long it took. */
 export async function compare(place, questions, isKept) {
   if (!isKept) await emptied();
-  const source = open(place), failed = [], start = performance.now(), left = [...questions.entries()];
+  const failed = [], left = [...questions.entries()];
   let equal = 0, progress = 0;
-  const run = async () => {
+  const run = async source => {
     while (left.length) {
       const [i, it] = left.shift();
       try {
@@ -38,32 +42,24 @@ export async function compare(place, questions, isKept) {
       }
     }
   };
-  await Promise.all([run(), run(), run(), run()]);
-  await new Promise(done => setTimeout(done, 200)); // what is kept is stored within a moment
-  source.close();
-  return { equal, failed: failed.slice(0, 5), progress, ms: Math.round(performance.now() - start) };
+  const { ms } = await timed(place, source => Promise.all([1, 2, 3, 4].map(() => run(source))));
+  return { equal, failed: failed.slice(0, 5), progress, ms };
 }
 
 /** The word of the fault with which a question ends, and after how long. */
-export async function fault(place, it, stopAfter) {
-  const source = open(place), start = performance.now(), stopper = new AbortController();
+export const fault = (place, it, stopAfter) => timed(place, async source => {
+  const stopper = new AbortController(), { signal } = stopper;
   if (stopAfter) setTimeout(() => stopper.abort(), stopAfter);
-  const word =
-    await asked(source, it, { signal: stopper.signal }).then(() => 'none', fault => fault.word ?? fault.name);
-  source.close();
-  return { word, ms: Math.round(performance.now() - start) };
-}
+  return { word: await asked(source, it, { signal }).then(() => 'none', fault => fault.word ?? fault.name) };
+});
 
-/**
- * Milliseconds of one question for the best documents, from opening the source, which starts a worker; the roots of a
- * catalog are read before, and the heads with the question.
- */
-export async function timed(place, { root, ...words }, isKept) {
+/** Milliseconds of one question for the best documents, with the heads; the worker and the roots are there before. */
+export async function best(place, { root, ...words }, isKept) {
   if (!isKept) await emptied();
-  const source = open(place), roots = await source.roots({ root }), start = performance.now();
-  await asked(source, { call: 'ranked', words: { ...words, roots } });
-  const ms = Math.round(performance.now() - start);
-  await new Promise(done => setTimeout(done, 200)); // what is kept is stored within a moment
-  source.close();
-  return ms;
+  const { took } = await timed(place, async source => {
+    const roots = await source.ask('roots', { root }), start = performance.now();
+    await asked(source, { call: 'ranked', words: { ...words, roots } });
+    return { took: Math.round(performance.now() - start) };
+  });
+  return took;
 }

@@ -4,9 +4,8 @@
 
 import { readFileSync } from 'node:fs';
 import { Assembler } from '../assembler.mjs';
-import { catalogFile } from '../catalog.mjs';
+import { catalogFile } from '../shown.mjs';
 import { HttpHost } from '../http.mjs';
-import { LIMITS } from '../question.mjs';
 import { FolderHost } from './folder.mjs';
 import { checkOf } from './module.mjs';
 import { termsOf } from './terms.mjs';
@@ -53,7 +52,7 @@ const headOnly = () => {
   };
 };
 
-const plain = base.startsWith('http') ? new HttpHost(base, LIMITS) : new FolderHost(base), check = await checkOf();
+const plain = base.startsWith('http') ? new HttpHost(base) : new FolderHost(base), check = await checkOf();
 const roots = await new Assembler([plain]).roots({ root }), isMany = roots[0] !== root;
 /** What is asked too much for one question is said so. */
 const measured = (...words) => measure(...words).catch(fault => {
