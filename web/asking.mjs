@@ -1,9 +1,10 @@
 // Questions: what a source answers to them, what the check says of that, and what texts show. Not proved.
 
 import { bytesOfHex, hex } from './bytes.mjs';
+import { each } from './calls.mjs';
 import { Fault, throwOthers } from './fault.mjs';
 import { isCatalog, nameOf, placeOf } from './places.mjs';
-import { reasonOf } from './sentences.mjs';
+import { number, reasonOf } from './sentences.mjs';
 import { catalogFile, proofsIn, shownBy } from './shown.mjs';
 
 /**
@@ -226,24 +227,16 @@ export class Asking {
    * @returns {Promise<Found>}
    */
   async find(answer, { signal, progress }) {
-    const found = { docs: /** @type {string[]} */ ([]), read: 0, failed: 0, stopped: '' },
-          left = answer.docs.slice(0, MOST_TEXTS);
-    if (left.length < answer.docs.length)
-      found.stopped = `This page looks into ${MOST_TEXTS.toLocaleString('en-US')} texts at most.`;
+    const { docs } = answer, found = { docs: /** @type {string[]} */ ([]), read: 0, failed: 0 };
     let bytes = 0;
-    const isFull = () => bytes >= MOST_BYTES && left.length > 0;
-    const run = async () => {
-      for (let doc = left.shift(); doc !== undefined && !isFull(); doc = left.shift()) {
-        const size = await this.#looked(answer, doc, found, signal);
-        bytes += size;
-        progress({ of: answer.docs.length, done: found.read, bytes });
-      }
-    };
-    await Promise.all(Array.from({ length: AT_ONCE }, run));
-    if (bytes >= MOST_BYTES && found.read < answer.docs.length)
-      found.stopped = 'This page looks into 64 MiB of texts at most.';
-    const have = new Set(found.docs);
-    return { ...found, docs: answer.docs.filter(doc => have.has(doc)) };
+    await each(docs.slice(0, MOST_TEXTS), AT_ONCE, async doc => {
+      if (bytes >= MOST_BYTES) return;
+      bytes += await this.#looked(answer, doc, found, signal);
+      progress({ of: docs.length, done: found.read, bytes });
+    });
+    const have = new Set(found.docs), limit = bytes >= MOST_BYTES ? '64 MiB of texts' : `${number(MOST_TEXTS)} texts`;
+    const stopped = found.read < docs.length ? `This page looks into ${limit} at most.` : '';
+    return { ...found, stopped, docs: docs.filter(doc => have.has(doc)) };
   }
 
   /** Looks into one text, and returns how many bytes came for it. */

@@ -17,6 +17,19 @@ export function workersOf(file) {
 }
 
 /**
+ * Does this with each of some, so many of them at the same time.
+ * @template Some
+ * @param {Some[]} some
+ * @param {number} atOnce
+ * @param {(one: Some) => Promise<void>} work
+ */
+export async function each(some, atOnce, work) {
+  const left = some.values();
+  const run = async () => { for (const one of left) await work(one); };
+  await Promise.all(Array.from({ length: atOnce }, run));
+}
+
+/**
  * @typedef {import('./question.mjs').How} How
  * @typedef {{ message: object, done: (got: any) => void, failed: (why: any) => void, progress: (it: any) => void }}
  *   Waiting

@@ -33,6 +33,12 @@ export const hostFault = (word, path, what, cause) =>
   new Fault(word, `host: ${path.replace(/.*\//, '')}: ${what}`, { cause });
 
 /**
+ * What went wrong, if it is no Fault of its own: the check stopped.
+ * @param {unknown} fault
+ */
+export const faultOf = fault => fault instanceof Fault ? fault : new Fault('stopped', `${fault}`);
+
+/**
  * Throws what is no Fault of one of these words.
  * @param {unknown} fault
  * @param {string[]} words

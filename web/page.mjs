@@ -1,9 +1,9 @@
 // The page: takes a root and a question, asks, has the reply checked, and says what came of it. Not proved.
 
 import { Asking } from './asking.mjs';
-import { bytesOfHex, hex } from './bytes.mjs';
+import { hex } from './bytes.mjs';
 import { Calls, workersOf } from './calls.mjs';
-import { Fault } from './fault.mjs';
+import { faultOf } from './fault.mjs';
 import { documentOf, fits, isCatalog, isName } from './places.mjs';
 import { badSign, readQuery } from './query.mjs';
 import { Results } from './results.mjs';
@@ -42,14 +42,16 @@ const state = {
   root: '', how: '', offered: '', name: '', titles: false, asking: undefined, stopper: undefined,
   answer: undefined, shown: A_PAGE, doc: undefined, host: undefined,
 };
-const results =
-  new Results($('list'), doc => `#${linkOf(/** @type {Answer} */ (state.answer), { host: state.host, doc })}`);
-const whole = new Whole();
+/** @param {string} [doc] that is open */
+const linkOfAnswer = doc => linkOf(answered(), { host: state.host, doc });
+const results = new Results($('list'), doc => `#${linkOfAnswer(doc)}`);
+const whole = new Whole(), NAMELESS = $('name').textContent, ROOTLESS = $('origin').textContent;
 
 const linked = () => new URLSearchParams(location.hash.slice(1));
 const builtIn = name => /** @type {HTMLMetaElement} */ (document.querySelector(`meta[name=${name}]`)).content;
 const isRoot = text => /^[0-9a-f]{64}$/.test(text);
 const asking = () => /** @type {Asking} */ (state.asking);
+const answered = () => /** @type {Answer} */ (state.answer);
 
 // ---- the root
 
@@ -67,10 +69,10 @@ function useRoot(root, how) {
 function rootShown() {
   const { root, how, name } = state, good = isRoot(root);
   $('root').removeAttribute('aria-invalid');
-  write('origin', originOf(root, how));
+  write('origin', root ? originOf(root, how) : ROOTLESS);
   write('root-short', good ? `${root.slice(0, 8)}…` : '');
   show('keep', good && root !== kept().root);
-  write('name', name || 'Search an archive');
+  write('name', name || NAMELESS);
   show('name-hint', name !== '');
 }
 
@@ -117,8 +119,7 @@ const STAY = 'Stay with your root.';
 const NEWER = {
   grown: found => [grewOf(found), grownOf(found),
     'This does not show whether what was added is the owner’s. Compare the new root with the one that the owner '
-      + 'published, and use it '
-      + 'if they are the same.'],
+      + 'published, and use it if they are the same.'],
   older: ({ day }) => ['The host is behind', `It offers a root that you left on ${day}, when the archive had grown.`,
     `${STAY} Ask again later, or ask another host.`],
   other: () => ['The host offers another archive',
@@ -133,12 +134,10 @@ const NEWER = {
  * @param {string} offered
  */
 function newerShown(found, offered) {
-  show('newer', found.kind !== 'same');
-  if (found.kind === 'same') return;
+  if (found.kind === 'same') return show('newer', false);
   const isGood = found.kind === 'grown', [heading, said, what] = NEWER[found.kind](found);
   state.offered = offered;
-  $('newer').className = isGood ? 'good' : 'bad';
-  write('newer-verdict', `${isGood ? '✓' : '✗'} ${heading}`);
+  judgedIn('newer', 'newer-verdict', isGood, heading);
   write('newer-said', said);
   write('newer-line', found.got?.line ?? '');
   show('newer-line-place', found.kind === 'refused');
@@ -146,6 +145,13 @@ function newerShown(found, offered) {
   write('newer-do', what);
   show('newer-tools', isGood);
   write('heard', `${heading}. ${said} ${what}`);
+}
+
+/** Goes on with the root as it is, after what was offered in this place. */
+function stay(place) {
+  show(place, false);
+  say('Your root stays as it is.');
+  $('query').focus();
 }
 
 function takeNewer() {
@@ -183,26 +189,29 @@ function invalid(id, text) {
   $(id).focus();
 }
 
+/** Shows this place, green or red, with its heading. */
+function judgedIn(place, id, isGood, heading) {
+  $(place).className = isGood ? 'good' : 'bad';
+  write(id, `${isGood ? '✓' : '✗'} ${heading}`);
+  show(place, true);
+}
+
 /** What came of a question. Only a line of the proved module is called the check's. */
 function verdict(isGood, heading, said, { line = '', says = 'The check’s line:', other = false } = {}) {
-  $('answer').className = isGood ? 'good' : 'bad';
-  write('verdict', `${isGood ? '✓' : '✗'} ${heading}`);
+  judgedIn('answer', 'verdict', isGood, heading);
   write('said', said);
   write('line-says', says);
   write('line', line);
   $('notes').replaceChildren();
   show('line-place', line !== '');
   show('other-place', other);
-  show('answer', true);
   announce(`${heading}. ${said}`);
 }
 
-const failed = fault => {
-  const why = fault instanceof Fault ? fault : new Fault('stopped', `${fault}`);
-  const isChecked = why.word !== 'memory' && why.word !== 'stopped';
-  verdict(
-    false, isChecked ? 'No answer' : 'Not checked', faultWords(why), { line: why.line, says: 'What the page saw:' });
-};
+function failed(fault) {
+  const why = faultOf(fault), heading = ['memory', 'stopped'].includes(why.word) ? 'Not checked' : 'No answer';
+  verdict(false, heading, faultWords(why), { line: why.line, says: 'What the page saw:' });
+}
 
 /** @param {Answer} answer */
 function refused({ got, way, from, root }) {
@@ -339,7 +348,8 @@ async function working(act) {
 /** A host without the folder of this root may have that of a newer one. */
 async function failedToAnswer(fault) {
   failed(fault);
-  if (!(fault instanceof Fault) || fault.word !== 'missing' || !fault.line.includes('head')) return;
+  const { word, line } = faultOf(fault);
+  if (word !== 'missing' || !line.includes('head')) return;
   await lookForNewer();
   if (!$('newer').hidden) write('said', 'This host has no answers under your root. Above is what it offers.');
 }
@@ -356,7 +366,7 @@ function submitted(event) {
 
 /** Ten more results: of the best, these are a question of its own. */
 function more() {
-  const answer = /** @type {Answer} */ (state.answer);
+  const answer = answered();
   state.shown += A_PAGE;
   const next = state.shown - A_PAGE, focused = () => $('list').querySelectorAll('.open')[next]?.focus();
   if (answer.way === 'all' || answer.docs.length > next) { listShown(answer); return focused(); }
@@ -370,7 +380,7 @@ function more() {
 const docOf = link => [link.get('doc')].find(it => it !== null && isName(it));
 
 async function openText(doc) {
-  const answer = /** @type {Answer} */ (state.answer), { signal } = /** @type {AbortController} */ (state.stopper);
+  const answer = answered(), { signal } = /** @type {AbortController} */ (state.stopper);
   if (!fits(doc, answer)) return;
   state.doc = doc;
   try {
@@ -381,7 +391,7 @@ async function openText(doc) {
     if (state.answer !== answer || state.doc !== doc) return;
     if (!read) return verdict(false, 'This text is refused', reasonOf(got, 'text'), { line: got.line });
     ['answer', 'list', 'more', 'how'].forEach(id => show(id, false));
-    $('back').href = `#${linkOf(answer, { host: state.host })}`;
+    $('back').href = `#${linkOfAnswer()}`;
     whole.open(short.read.title, read);
     const length = number(read.text.length);
     write('whole-said', `${capital(documentOf(doc))}, all of its ${length} characters. ✓ text checked.`);
@@ -404,7 +414,7 @@ function closeText() {
 // ---- evidence
 
 async function save() {
-  const answer = /** @type {Answer} */ (state.answer);
+  const answer = answered();
   write('done', 'Getting the texts on this page …');
   await results.whole();
   if (answer !== state.answer) return;
@@ -422,8 +432,7 @@ function openFile(it) {
     const file = await opened(it);
     if (!file) {
       return verdict(false, 'Not a saved proof',
-        'This file is none that the page saved, or it is damaged. Get it again from whoever ' +
-          'sent it to you.');
+        'This file is none that the page saved, or it is damaged. Get it again from whoever sent it to you.');
     }
     if (!isRoot(state.root)) openedUnder(file.root);
     await judgeFile({ ...file, from: { name: it.name, date: file.date, root: file.root } }, signal);
@@ -448,8 +457,7 @@ async function judgeFile(file, signal) {
 }
 
 function checkUnderOther() {
-  const answer = /** @type {Answer} */ (state.answer);
-  const root = /** @type {import('./asking.mjs').SavedFrom} */ (answer.from).root;
+  const answer = answered(), { root } = /** @type {import('./asking.mjs').SavedFrom} */ (answer.from);
   useRoot(root, 'file');
   const shards = isCatalog(answer) ? answer.shards : [root];
   working(signal => judgeFile({ ...answer, root, shards }, signal));
@@ -469,38 +477,33 @@ async function copy(text, place, said) {
 }
 
 function copyLink() {
-  const answer = /** @type {Answer} */ (state.answer), link = linkOf(answer, { host: state.host });
-  return copy(`${location.href.split('#')[0]}#${link}`, 'done',
+  return copy(`${location.href.split('#')[0]}#${linkOfAnswer()}`, 'done',
     'The link is copied. It has the root, the query and how you asked.');
 }
 
 function cite(docs, place) {
-  const answer = /** @type {Answer} */ (state.answer), day = dayOf(new Date());
-  const lines = docs.map(doc => citeOf(answer, doc, day)).join('\n');
-  return copy(
-    lines, place, `Copied: ${docs.length === 1 ? 'a line that names' : 'lines that name'} document, root and query.`);
+  const day = dayOf(new Date()), what = docs.length === 1 ? 'a line that names' : 'lines that name';
+  const lines = docs.map(doc => citeOf(answered(), doc, day)).join('\n');
+  return copy(lines, place, `Copied: ${what} document, root and query.`);
 }
-
 
 /** Turns one bit of the proof, as a host that lies could have done, and shows what the check says. */
 async function lie() {
-  const answer = /** @type {Answer} */ (state.answer), { proofs, way } = answer;
+  const answer = answered(), { proofs, way } = answer;
   const draw = most => Number(crypto.getRandomValues(new BigUint64Array(1))[0] % BigInt(most));
   const one = draw(proofs.length), changed = proofs[one].slice(), at = draw(8 * changed.length);
   changed[at >> 3] ^= 1 << (at & 7);
   const got = await asking().checked(answer, proofs.map((it, i) => i === one ? changed : it));
   const isGood = got.status === 0;
   if (answer !== state.answer) return;
-  $('lied').className = isGood ? 'good' : 'bad';
+  judgedIn('lied', 'lied-verdict', isGood, isGood ? 'The changed proof is no lie' : 'The lie is refused');
   write('lied-what', `The page turned one bit of the proof, as a host that lies could have done: `
     + `bit ${at & 7} of byte ${at >> 3}, of ${changed.length} bytes (both count from 0).`);
-  write('lied-verdict', isGood ? '✓ The changed proof is no lie' : '✗ The lie is refused');
   write('lied-said',
     isGood ? 'The check accepts it: its answer is right as well. Documents may tie, for example. Try again.'
            : reasonOf(got, way));
   write('lied-line', got.line);
   show('lied-place', !isGood);
-  show('lied', true);
   $('lied').scrollIntoView({ block: 'center' });
   $('lied-verdict').focus({ preventScroll: true });
 }
@@ -599,45 +602,37 @@ function dropped(event) {
 on('form', 'submit', submitted);
 on('root', 'input', rootTyped);
 on('root', 'change', lookForNewer);
-on('keep', 'click', keepRoot);
-on('use-linked', 'click', useLinked);
-on('keep-own', 'click', () => {
-  show('linked', false);
-  addressed();
-  say('Your root stays as it is.');
-  $('query').focus();
-});
-on('take', 'click', takeNewer);
-on('stay', 'click', () => { show('newer', false); say('Your root stays as it is.'); $('query').focus(); });
-on('stop', 'click', () => state.stopper?.abort(new DOMException('Stopped.', 'AbortError')));
-on('more', 'click', more);
-on('earlier', 'click', () => whole.turn(-1));
-on('later', 'click', () => whole.turn(1));
-on('open', 'click', () => $('file').click());
 on('file', 'change', ({ target }) => {
-  if (target.files[0])
-    openFile(target.files[0]).finally(() => {
-      target.value = '';
-    });
+  if (target.files[0]) openFile(target.files[0]).finally(() => { target.value = ''; });
 });
-on('other', 'click', checkUnderOther);
-on('save', 'click', () => save().catch(failed));
-on('link', 'click', copyLink);
-on('cite', 'click', () => cite([state.doc], 'cited'));
-on('cite-all', 'click', () => cite([...$('list').children].map(it => it.dataset.doc), 'done'));
-on('lie', 'click', () => lie().catch(failed));
+Object.entries({
+  keep: keepRoot,
+  'use-linked': useLinked,
+  'keep-own': () => { addressed(); stay('linked'); },
+  take: takeNewer,
+  stay: () => stay('newer'),
+  stop: () => state.stopper?.abort(new DOMException('Stopped.', 'AbortError')),
+  more,
+  earlier: () => whole.turn(-1),
+  later: () => whole.turn(1),
+  open: () => $('file').click(),
+  other: checkUnderOther,
+  save: () => save().catch(failed),
+  link: copyLink,
+  cite: () => cite([state.doc], 'cited'),
+  'cite-all': () => cite([...$('list').children].map(it => it.dataset.doc), 'done'),
+  lie: () => lie().catch(failed),
+}).forEach(([id, act]) => on(id, 'click', act));
 addEventListener('dragover', event => event.preventDefault());
 addEventListener('drop', dropped);
 addEventListener('hashchange', moved);
 busy(true);
 show('stop', false);
-start().then(
-  ready => {
-    say(ready);
-    busy(false);
-    lookForNewer();
-  },
-  fault => {
-    say(fault.message);
-    show('stop', false);
-  });
+start().then(ready => {
+  say(ready);
+  busy(false);
+  lookForNewer();
+}, fault => {
+  say(fault.message);
+  show('stop', false);
+});

@@ -1,6 +1,7 @@
 // The results of an answer. The text of each is fetched, and shown only if the check accepts it. Not proved.
 
-import { Fault } from './fault.mjs';
+import { each } from './calls.mjs';
+import { faultOf } from './fault.mjs';
 import { documentOf } from './places.mjs';
 import { capital, faultWords, reasonOf, scoreOf } from './sentences.mjs';
 import { element, marked } from './view.mjs';
@@ -42,13 +43,9 @@ export class Results {
   show(asking, answer, docs) {
     this.clear();
     this.#asking = asking;
-    const items = docs.map((doc, i) => this.#item(answer, doc, i)),
-          left = items.map((item, i) => ({ item, doc: docs[i] }));
+    const items = docs.map((doc, i) => this.#item(answer, doc, i));
     this.#list.replaceChildren(...items);
-    const run = async () => {
-      for (let next = left.shift(); next; next = left.shift()) await this.#fill(answer, next.doc, next.item);
-    };
-    this.#coming = Promise.all(Array.from({ length: TEXTS_AT_ONCE }, run));
+    this.#coming = each([...items.keys()], TEXTS_AT_ONCE, i => this.#fill(answer, docs[i], items[i]));
   }
 
   /** Resolves when no text is on its way any more. */
@@ -67,8 +64,8 @@ export class Results {
     const frame = element('div', [title, text], { className: 'frame' });
     frame.setAttribute('role', 'group');
     frame.setAttribute('aria-label', `From the text of ${name}`);
-    const item =
-      element('li', [frame, element('p', [element('span', says, { className: 'says' })], { className: 'small' })]);
+    const small = element('p', [element('span', says, { className: 'says' })], { className: 'small' });
+    const item = element('li', [frame, small]);
     item.dataset.doc = doc;
     item.setAttribute('aria-busy', 'true');
     return item;
@@ -85,11 +82,10 @@ export class Results {
       const { got, read } = await asking.read(answer, 'excerpt', doc, [answer.words.marked, answer.titles], signal);
       if (signal.aborted) return;
       if (read) text(item, read);
-      else withheld(item, reasonOf(got, 'text'), 'The check’s line:', got.line);
+      else withheld(item, reasonOf(got, 'text'), got.line);
     } catch (fault) {
       if (signal.aborted) return;
-      const why = fault instanceof Fault ? fault : new Fault('stopped', `${fault}`);
-      this.#missing(answer, doc, item, why);
+      this.#missing(answer, doc, item, faultOf(fault));
     }
     item.removeAttribute('aria-busy');
   }
@@ -98,7 +94,7 @@ export class Results {
    * @param {Answer} answer
    * @param {string} doc
    * @param {HTMLElement} item
-   * @param {Fault} why
+   * @param {import('./fault.mjs').Fault} why
    */
   #missing(answer, doc, item, why) {
     const again = element('button', 'Ask again for this text', { type: 'button', className: 'small' });
@@ -130,10 +126,9 @@ function text(item, { title, text: shown, marks, before, after, length }) {
   part(item, '.small').append(' · ', element('span', '✓ text checked', { className: 'checked' }));
 }
 
-function withheld(item, reason, whose, line) {
+function withheld(item, reason, line) {
   part(item, '.text').replaceChildren();
   part(item, '.open').replaceWith(part(item, '.open').textContent);
-  const verdict = element('p', '✗ This text is refused: it is not shown', { className: 'verdict' });
-  item.append(verdict);
-  note(item, reason, whose, line);
+  item.append(element('p', '✗ This text is refused: it is not shown', { className: 'verdict' }));
+  note(item, reason, 'The check’s line:', line);
 }

@@ -51,7 +51,6 @@ const ORIGINS = {
  */
 export function originOf(root, how) {
   const { root: own, day } = kept();
-  if (!root) return '64 digits that the archive’s owner published. Take them from the owner, not from the host.';
   if (root === own) return `Kept in this browser on ${day}.`;
   if (leftOn(root)) return `You left this root on ${leftOn(root)}: the archive has grown since.`;
   return ORIGINS[how] ?? ORIGINS.typed;

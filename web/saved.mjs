@@ -1,6 +1,7 @@
 // A saved proof: a ZIP file with the question, the bytes of the proof, those of the texts, and how to check them with
 // the program. It is evidence by its proof alone, so the page checks all of it again when it opens one. Not proved.
 
+import { joined } from './bytes.mjs';
 import { documentOf, isCatalog, isName, placeOf } from './places.mjs';
 import { badSign, readQuery } from './query.mjs';
 import { capital } from './sentences.mjs';
@@ -21,14 +22,9 @@ function crc(bytes) {
   return ~sum >>> 0;
 }
 
-const little = (...fields) => {
-  const out = new DataView(new ArrayBuffer(fields.reduce((sum, [size]) => sum + size, 0)));
-  fields.reduce((at, [size, value]) => {
-    if (size === 2) out.setUint16(at, value, true); else out.setUint32(at, value, true);
-    return at + size;
-  }, 0);
-  return new Uint8Array(out.buffer);
-};
+// Numbers of 2 and of 4 bytes, the least byte first, as in the memory of every machine that has a browser.
+const as16 = (...numbers) => new Uint8Array(Uint16Array.from(numbers).buffer);
+const as32 = (...numbers) => new Uint8Array(Uint32Array.from(numbers).buffer);
 const LOCAL = 0x04034b50, CENTRAL = 0x02014b50, LAST = 0x06054b50, LOCAL_SIZE = 30, VERSION = 20;
 
 /** The parts of a ZIP file with these files: [name, bytes], made on this day. */
@@ -38,16 +34,15 @@ function zipped(files, moment) {
   let at = 0;
   for (const [name, bytes] of files) {
     const path = new TextEncoder().encode(name);
-    // Version, no flag, stored, the time 0:00, day, sums and sizes, no extra field.
-    const sizes = [[4, crc(bytes)], [4, bytes.length], [4, bytes.length], [2, path.length], [2, 0]];
-    const common = little([2, VERSION], [2, 0], [2, 0], [2, 0], [2, day], ...sizes);
-    front.push(little([4, LOCAL]), common, path, bytes);
-    back.push(little([4, CENTRAL], [2, VERSION]), common, little([2, 0], [2, 0], [2, 0], [4, 0], [4, at]), path);
+    // Version, no flag, stored, the time 0:00, day, sum and sizes, no extra field.
+    const sizes = [as32(crc(bytes), bytes.length, bytes.length), as16(path.length, 0)];
+    const common = joined([as16(VERSION, 0, 0, 0, day), ...sizes]);
+    front.push(as32(LOCAL), common, path, bytes);
+    back.push(as32(CENTRAL), as16(VERSION), common, as16(0, 0, 0), as32(0, at), path);
     at += LOCAL_SIZE + path.length + bytes.length;
   }
-  const size = back.reduce((sum, it) => sum + it.length, 0);
-  const last = [[4, LAST], [2, 0], [2, 0], [2, files.length], [2, files.length], [4, size], [4, at], [2, 0]];
-  return [...front, ...back, little(...last)];
+  const count = files.length, size = joined(back).length;
+  return [...front, ...back, as32(LAST), as16(0, 0, count, count), as32(size, at), as16(0)];
 }
 
 /**
@@ -59,12 +54,10 @@ function unzipped(bytes) {
   const view = new DataView(bytes.buffer, bytes.byteOffset, bytes.length), files = new Map();
   let at = 0;
   while (at + LOCAL_SIZE <= bytes.length && view.getUint32(at, true) === LOCAL && files.size < MOST_FILES) {
-    const [how, size] = [view.getUint16(at + 8, true), view.getUint32(at + 18, true)];
-    const [path, extra] = [view.getUint16(at + 26, true), view.getUint16(at + 28, true)];
-    const start = at + LOCAL_SIZE + path + extra;
+    const [how, path, extra] = [8, 26, 28].map(place => view.getUint16(at + place, true));
+    const size = view.getUint32(at + 18, true), name = at + LOCAL_SIZE, start = name + path + extra;
     if (how !== 0 || start + size > bytes.length) return undefined;
-    const name = new TextDecoder().decode(bytes.subarray(at + LOCAL_SIZE, at + LOCAL_SIZE + path));
-    files.set(name, bytes.slice(start, start + size));
+    files.set(new TextDecoder().decode(bytes.subarray(name, name + path)), bytes.slice(start, start + size));
     at = start + size;
   }
   return files.size ? files : undefined;
@@ -138,17 +131,8 @@ function questionOf(bytes) {
     && !badSign(it.query) && (it.way === 'all' || (it.way === 'best' && isRows(it.rows)));
   if (!isKnown) return undefined;
   const { root, way, query, rows = 0, titles, date } = it;
-  return {
-    root,
-    way,
-    r: rows,
-    typed: query,
-    query,
-    phrases: [],
-    passed: readQuery(query).passed,
-    titles: titles === true,
-    date: String(date)
-  };
+  const question = { root, way, r: rows, typed: query, query, phrases: [], passed: readQuery(query).passed };
+  return { ...question, titles: titles === true, date: String(date) };
 }
 
 /** A name for the file, from the query's letters and digits. */
@@ -163,9 +147,8 @@ export const fileNameOf = ({ query }, day) =>
  * @param {{ host?: string, doc?: string }} more
  */
 export function linkOf({ root, way, typed }, { host, doc }) {
-  const parts = { host, root, way, query: typed, doc };
-  const said = Object.entries(parts).filter(([, value]) => value !== undefined);
-  return new URLSearchParams(said.map(([name, value]) => [name, String(value)])).toString();
+  const parts = Object.entries({ host, root, way, query: typed, doc }).filter(([, value]) => value !== undefined);
+  return new URLSearchParams(/** @type {[string, string][]} */ (parts)).toString();
 }
 
 /**

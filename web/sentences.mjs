@@ -1,58 +1,57 @@
 // What the page says, in plain words. The lines are those of docs/formats.md. Not proved.
 
-// Query words are numbered from 0 in byte order, documents and rows from 0. `it` is what was checked: see NAMES.
+// Query words are numbered from 0 in byte order, documents and rows from 0. {n} and {m} are the numbers of the verdict,
+// {it} is what was checked: see NAMES.
+const ROOM = 'The page made too little room. This is a fault of the page.';
 const REASONS = {
-  1: () => 'The query is no text that can be sent.',
-  2: n => `You asked for ${n} rows. Ask for 1 to 1,000.`,
-  3: () => 'The page made too little room. This is a fault of the page.',
-  4: n => `The query has ${n} bytes. It may have 4,000.`,
-  5: () => 'The query has no word to look for. A word has a letter or a digit, and 64 bytes at most.',
-  6: n => `The query has ${n} words. It may have 255.`,
-  7: n => `The query has ${n} different words. It may have 32.`,
-  8: (n, m, it) => `The ${it} is longer than any may be (${n} bytes).`,
-  9: (n, m, it) => `The ${it} is cut off: it ends inside the field that starts at byte ${n}.`,
-  10: (n, m, it) => `The ${it} does not start as one does.`,
-  11: (n, m, it) => `Byte ${n} of the ${it} names a version that this page does not know.`,
-  12: (n, m, it) => `Byte ${n} of the ${it} names neither of the two kinds of proof.`,
-  13: (n, m, it) => `The number at byte ${n} of the ${it} is outside its range.`,
-  14: (n, m, it) => `The number at byte ${n} of the ${it} is out of order.`,
-  15: (n, m, it) => `The ${it} goes on after its end, which is before byte ${n}.`,
-  16: (n, m, it) =>
-    `The ${it} is not for your root. It is of another archive, or of an older or newer state of this one.`,
-  17: n => `The proof is for a query with ${n} different words. Your query has another number of them.`,
-  18: () => 'The part of the archive’s dictionary in the proof does not fit the size of the dictionary.',
-  19: () => 'The part of the archive’s dictionary in the proof is not the archive’s: it leads to another root.',
-  20: n =>
-    `For query word ${n} the proof does not show whether the archive has it. It may be a proof for another query.`,
-  21: (n, m) => `In the list of query word ${n}, entry ${m} names a document that the proof does not show.`,
-  22: (n, m) => `In the list of query word ${n}, entry ${m} names a document for a second time.`,
-  23: n => `The part of the list of query word ${n} in the proof does not fit the length of that list.`,
-  24: n => `The list of query word ${n} in the proof is not the archive’s: it leads to another root.`,
-  25: n => `Document ${n} of those that the proof names is in none of the lists that it shows.`,
-  26: () => 'The documents in the proof do not fit the number of documents in the archive.',
-  27: () => 'The documents in the proof are not the archive’s: they lead to another root.',
-  28: n => `The words of document ${n} in the proof do not fit the number of words that it has.`,
-  29: n => `The words of document ${n} in the proof are not the archive’s: they lead to another root.`,
-  30: (n, m) => `For document ${n} the proof does not show whether it has query word ${m}.`,
-  31: n => `Row ${n} of the answer names a document that the proof does not show.`,
-  32: n => `Row ${n} of the answer names the document of an earlier row.`,
-  33: () => 'What the proof shows does not settle this answer. For example, a row was left out, added or moved.',
-  34: () => 'This browser ran out of memory.',
-  35: () => 'The proof is of the other kind, which never shows that no document is missing.',
-  36: n => `The proof has ${n} rows of an answer. One of all documents has none.`,
-  37: () => 'The proof shows no list of a query word to its end. So a document may be missing.',
-  38: () => 'The page made too little room. This is a fault of the page.',
-  39: n => `The archive has only ${n} documents, and this is none of them.`,
-  40: () => 'The digests beside the text do not fit the place of this document in the archive.',
-  41: () =>
-    'This is not the archive’s text of this document: it leads to another root. It was changed, or is that of another '
-    + 'document.',
-  42: () => 'The file of the growth does not begin at your root.',
-  43: () => 'The file of the growth does not lead to the root that is offered.',
-  44: (n, m) => `The archive had ${n} documents, and would now have ${m}. Documents were withdrawn.`,
-  45: () => 'The digests in the file of the growth do not fit the numbers of documents.',
-  46: () => 'The file of the growth leads to other texts than those under your root.',
-  47: () => 'The file of the growth leads to other texts than those under the root that is offered.',
+  1: 'The query is no text that can be sent.',
+  2: 'You asked for {n} rows. Ask for 1 to 1,000.',
+  3: ROOM,
+  4: 'The query has {n} bytes. It may have 4,000.',
+  5: 'The query has no word to look for. A word has a letter or a digit, and 64 bytes at most.',
+  6: 'The query has {n} words. It may have 255.',
+  7: 'The query has {n} different words. It may have 32.',
+  8: 'The {it} is longer than any may be ({n} bytes).',
+  9: 'The {it} is cut off: it ends inside the field that starts at byte {n}.',
+  10: 'The {it} does not start as one does.',
+  11: 'Byte {n} of the {it} names a version that this page does not know.',
+  12: 'Byte {n} of the {it} names neither of the two kinds of proof.',
+  13: 'The number at byte {n} of the {it} is outside its range.',
+  14: 'The number at byte {n} of the {it} is out of order.',
+  15: 'The {it} goes on after its end, which is before byte {n}.',
+  16: 'The {it} is not for your root. It is of another archive, or of an older or newer state of this one.',
+  17: 'The proof is for a query with {n} different words. Your query has another number of them.',
+  18: 'The part of the archive’s dictionary in the proof does not fit the size of the dictionary.',
+  19: 'The part of the archive’s dictionary in the proof is not the archive’s: it leads to another root.',
+  20: 'For query word {n} the proof does not show whether the archive has it. It may be a proof for another query.',
+  21: 'In the list of query word {n}, entry {m} names a document that the proof does not show.',
+  22: 'In the list of query word {n}, entry {m} names a document for a second time.',
+  23: 'The part of the list of query word {n} in the proof does not fit the length of that list.',
+  24: 'The list of query word {n} in the proof is not the archive’s: it leads to another root.',
+  25: 'Document {n} of those that the proof names is in none of the lists that it shows.',
+  26: 'The documents in the proof do not fit the number of documents in the archive.',
+  27: 'The documents in the proof are not the archive’s: they lead to another root.',
+  28: 'The words of document {n} in the proof do not fit the number of words that it has.',
+  29: 'The words of document {n} in the proof are not the archive’s: they lead to another root.',
+  30: 'For document {n} the proof does not show whether it has query word {m}.',
+  31: 'Row {n} of the answer names a document that the proof does not show.',
+  32: 'Row {n} of the answer names the document of an earlier row.',
+  33: 'What the proof shows does not settle this answer. For example, a row was left out, added or moved.',
+  34: 'This browser ran out of memory.',
+  35: 'The proof is of the other kind, which never shows that no document is missing.',
+  36: 'The proof has {n} rows of an answer. One of all documents has none.',
+  37: 'The proof shows no list of a query word to its end. So a document may be missing.',
+  38: ROOM,
+  39: 'The archive has only {n} documents, and this is none of them.',
+  40: 'The digests beside the text do not fit the place of this document in the archive.',
+  41: 'This is not the archive’s text of this document: it leads to another root. It was changed, or is that of'
+    + ' another document.',
+  42: 'The file of the growth does not begin at your root.',
+  43: 'The file of the growth does not lead to the root that is offered.',
+  44: 'The archive had {n} documents, and would now have {m}. Documents were withdrawn.',
+  45: 'The digests in the file of the growth do not fit the numbers of documents.',
+  46: 'The file of the growth leads to other texts than those under your root.',
+  47: 'The file of the growth leads to other texts than those under the root that is offered.',
 };
 const NAMES = { best: 'proof', all: 'proof', text: 'file of the text', growth: 'file of the growth' };
 
@@ -64,8 +63,9 @@ const NAMES = { best: 'proof', all: 'proof', text: 'file of the text', growth: '
  * @returns {string}
  */
 export function reasonOf({ reason, first, second, shard }, what = 'best') {
-  const said = REASONS[reason] ?? (() => 'The check gave a reason that this page does not know.');
-  return (shard === undefined ? '' : `Archive ${shard}: `) + said(first, second, NAMES[what]);
+  const said = REASONS[reason] ?? 'The check gave a reason that this page does not know.';
+  const meant = { n: first, m: second, it: NAMES[what] };
+  return (shard === undefined ? '' : `Archive ${shard}: `) + said.replace(/\{(\w+)\}/g, (_, name) => meant[name]);
 }
 
 // Which of these has numbers that count from 0.
