@@ -142,7 +142,7 @@ class Bounds {
 
 const FURTHER = 4;
 
-/** The walk along the lists of one archive: which of them each turn advances, as far as the entries go that are here. */
+/** The walk along the lists of one archive: which list each turn advances, as far as the entries are here. */
 class Walk {
   #lanes; #bounds; #shown;
   #lists = new Uint8Array(1024); // there are at most 32 lanes

@@ -21,6 +21,10 @@ QUIET = {"stdin": subprocess.DEVNULL, "stdout": subprocess.DEVNULL, "stderr": su
 PATIENCE = 240  # seconds for the longest step, on a machine with much other work
 
 
+OPTIONS = (
+    "--headless --disable-gpu --no-first-run --disable-background-networking --disable-dev-shm-usage "
+    "--remote-debugging-pipe"
+).split()
 # Chromium reads from file descriptor 3 and writes to 4.
 AT_3_AND_4 = """import os, sys
 theirs, back = (os.dup(int(it)) for it in sys.argv[1:3])
@@ -32,6 +36,14 @@ os.execvp(sys.argv[3], sys.argv[3:])"""
 
 class Browser:
     """A browser without a window, with a new profile."""
+
+    name: str
+    programs: "tuple[str, ...]"
+    packages: str  # of Debian
+
+    @classmethod
+    def program(cls) -> Optional[str]:
+        return next(filter(None, map(shutil.which, cls.programs)), None)
 
     def __init__(self) -> None:
         self.folder = tempfile.mkdtemp(prefix="page-test-")
@@ -49,7 +61,7 @@ class Browser:
 
 
 class Chromium(Browser):
-    name = "chromium"
+    name = packages = "chromium"
     programs = ("chromium", "chromium-browser", "google-chrome")
 
     def __init__(self, program: str) -> None:
@@ -57,19 +69,8 @@ class Chromium(Browser):
         theirs, self.to = os.pipe()
         self.of, back = os.pipe()
         # Root may not have a sandbox in Chromium; the profile is thrown away.
-        words = [
-            program,
-            "--headless",
-            "--disable-gpu",
-            "--no-first-run",
-            "--disable-background-networking",
-            "--disable-dev-shm-usage",
-            f"--user-data-dir={self.folder}",
-            "--remote-debugging-pipe",
-            *["--no-sandbox"] * (os.geteuid() == 0),
-            "about:blank",
-        ]
-        words = [sys.executable, "-c", AT_3_AND_4, str(theirs), str(back), *words]
+        words = [program, *OPTIONS, f"--user-data-dir={self.folder}", *["--no-sandbox"] * (os.geteuid() == 0)]
+        words = [sys.executable, "-c", AT_3_AND_4, str(theirs), str(back), *words, "about:blank"]
         self.process = subprocess.Popen(words, pass_fds=(theirs, back), **QUIET)
         os.close(theirs)
         os.close(back)
@@ -125,10 +126,8 @@ class Chromium(Browser):
 
     def size(self, width: int, height: int, dark: bool = False) -> None:
         self.send("Emulation.setDeviceMetricsOverride", width=width, height=height, deviceScaleFactor=1, mobile=False)
-        self.send(
-            "Emulation.setEmulatedMedia",
-            features=[{"name": "prefers-color-scheme", "value": "dark" if dark else "light"}],
-        )
+        scheme = {"name": "prefers-color-scheme", "value": "dark" if dark else "light"}
+        self.send("Emulation.setEmulatedMedia", features=[scheme])
 
     def screenshot(self, file: Union[str, Path]) -> None:
         with open(file, "wb") as it:
@@ -139,11 +138,8 @@ class Chromium(Browser):
         self.send("Network.clearBrowserCache")
 
     def asked_hosts(self) -> set[str]:
-        return {
-            it["params"]["request"]["url"].split("/")[2]
-            for it in self.events
-            if it["method"] == "Network.requestWillBeSent" and it["params"]["request"]["url"].startswith("http")
-        }
+        sent = [it["params"]["request"]["url"] for it in self.events if it["method"] == "Network.requestWillBeSent"]
+        return {it.split("/")[2] for it in sent if it.startswith("http")}
 
     def complaints(self) -> list[str]:
         """What the browser logged as an error, such as a breach of the policy. A file that is not there, as its icon,
@@ -153,7 +149,7 @@ class Chromium(Browser):
 
 
 class Firefox(Browser):
-    name = "firefox"
+    name, packages = "firefox", "firefox-esr"
     programs = ("firefox-esr", "firefox")
 
     def __init__(self, program: str) -> None:
@@ -215,7 +211,7 @@ class Firefox(Browser):
 class WebKit(Browser):
     """Plays the vectors alone. It has no headless form, so it runs below Xvfb."""
 
-    name = "webkit"
+    name, packages = "webkit", "webkit2gtk-driver and xvfb"
     programs = ("WebKitWebDriver",)
     windows = "/usr/lib/*/webkit2gtk-4.*/MiniBrowser"
 
@@ -223,12 +219,8 @@ class WebKit(Browser):
         super().__init__()
         port = free_port()
         self.url = f"http://127.0.0.1:{port}/session"
-        self.process = subprocess.Popen(
-            ["xvfb-run", "-a", program, f"--port={port}"],
-            start_new_session=True,
-            env={**os.environ, "HOME": self.folder},
-            **QUIET,
-        )
+        words, environment = ["xvfb-run", "-a", program, f"--port={port}"], {**os.environ, "HOME": self.folder}
+        self.process = subprocess.Popen(words, start_new_session=True, env=environment, **QUIET)
         connected(port, self.process).close()
         options = {"binary": sorted(glob.glob(self.windows))[-1], "args": ["--automation"]}
         begun = self.send("", {"capabilities": {"alwaysMatch": {"webkitgtk:browserOptions": options}}})
@@ -255,8 +247,8 @@ class WebKit(Browser):
             super().close()
 
     @classmethod
-    def is_there(cls) -> bool:
-        return bool(shutil.which("xvfb-run") and glob.glob(cls.windows))
+    def program(cls) -> Optional[str]:
+        return super().program() if shutil.which("xvfb-run") and glob.glob(cls.windows) else None
 
 
 def connected(port: int, process: "subprocess.Popen[bytes]") -> socket.socket:
@@ -279,7 +271,15 @@ def wait(holds: Callable[[], object], seconds: float = 60) -> None:
         time.sleep(0.02)
 
 
-def installed() -> Iterator[tuple[type[Browser], Optional[str]]]:
-    """For each browser its class and program, or None where it is not installed."""
-    for kind in (Chromium, Firefox):
-        yield kind, next(filter(None, map(shutil.which, kind.programs)), None)
+def each(*kinds: type[Browser]) -> Iterator[Browser]:
+    """Each browser that is installed, of Chromium and Firefox if no kinds are named. One is closed before the next."""
+    for kind in kinds or (Chromium, Firefox):
+        program = kind.program()
+        if not program:
+            print(f"skipped: {kind.name} is not installed (Debian: {kind.packages})")
+            continue
+        browser = kind(program)  # type: ignore[call-arg]
+        try:
+            yield browser
+        finally:
+            browser.close()
