@@ -212,7 +212,8 @@ export class Asking {
    * @returns {Promise<{ got: any, read: any, size: number }>}
    */
   async read(answer, call, name, words, signal) {
-    const { shards, texts, from } = answer, { shard, doc } = placeOf(name), root = shards[shard], kept = texts.get(name);
+    const { shards, texts, from } = answer, { shard, doc } = placeOf(name);
+    const root = shards[shard], kept = texts.get(name);
     if (from && !kept) throw new Fault('missing', 'no text in the file', { said: 'The saved file does not have it.' });
     const file = kept ?? await this.#source.ask('text', { root, doc }, { signal });
     const it = await this.#checks.call(call, [file, bytesOfHex(root), doc, ...words], { signal });

@@ -1,36 +1,30 @@
 // Catalogs of some archives: answers that the program accepts, and whose rows are those of a plain merge of the ranks
 // of each archive; all documents with every word. usage: node catalogs.mjs PROGRAM SEED QUESTIONS ROOM
 
-import { execFileSync } from 'node:child_process';
-import { mkdirSync, writeFileSync } from 'node:fs';
-import { fileURLToPath } from 'node:url';
+import { copyFileSync, writeFileSync } from 'node:fs';
 import { Assembler } from '../assembler.mjs';
 import { catalogFile, proofsIn } from '../shown.mjs';
 import { Fault } from '../fault.mjs';
 import { collections, drawer, question } from './collections.mjs';
 import { FolderHost } from './folder.mjs';
-import { run } from './program.mjs';
+import { archive, run } from './program.mjs';
 import { termsOf } from './terms.mjs';
 
 const [program, seedWord, questions, room] = process.argv.slice(2), seed = Number(seedWord);
-const at = name => `${room}/${name}`, make = fileURLToPath(new URL('../../owner/folder.py', import.meta.url));
-mkdirSync(room, { recursive: true });
+const at = name => `${room}/${name}`;
 const assembler = new Assembler([new FolderHost(at('folder'))]), MOST_ROWS = 1000;
 let failed = 0, rows = 0, files = 0;
 
-function see(about, right, got = '') {
+function see(about, right, got) {
   if (right) return;
   failed++;
-  console.log(`OTHERWISE: ${about}: ${got}`);
+  console.log(`OTHERWISE: ${about}: ${got.slice(0, 300)}`);
 }
 
 /** An archive of these texts: its root and its collection. */
-function archive(texts, i) {
-  const collection = at(`${i}.json`);
-  writeFileSync(collection, JSON.stringify(texts));
-  run(program, 'build', collection, at('index'));
-  const root = run(program, 'migrate', at('index'), at('index2')).out.trim();
-  execFileSync('python3', [make, at('index2'), at('folder')]);
+function shardOf(texts, i) {
+  const root = archive(program, texts, room), collection = at(`${i}.json`);
+  copyFileSync(at('texts.json'), collection);
   return { root, collection };
 }
 
@@ -53,7 +47,7 @@ function isTop(found, best, r) {
 }
 
 async function compare(name, parts) {
-  const draw = drawer(seed), shards = parts.map(archive), roots = shards.map(({ root }) => root);
+  const draw = drawer(seed), shards = parts.map(shardOf), roots = shards.map(({ root }) => root);
   writeFileSync(at('roots.txt'), roots.join('\n'));
   const [[root]] = printed('catalog-root', at('roots.txt'));
   for (let i = 0; i < Number(questions); i++) {
@@ -63,10 +57,10 @@ async function compare(name, parts) {
     writeFileSync(at('proof'), file);
     const { status, out } = run(program, 'catalog', root, `${r}`, query, at('proof'));
     const found = linesOf(out);
-    see(`${name}, ${r} of ${query}`, status === 0 && isTop(found, plain(shards, query), r), out.slice(0, 300));
+    see(`${name}, ${r} of ${query}`, status === 0 && isTop(found, plain(shards, query), r), out);
     rows += found.length;
     files++;
-    if (proofsIn(file).length !== roots.length) see('its proofs', false);
+    see('its proofs', proofsIn(file).length === roots.length, query);
     await compareAll(name, shards, terms, query);
   }
   console.log(`${name}: ${roots.length} archives; so far ${files} files, ${rows} rows, ${failed} otherwise`);
@@ -82,7 +76,7 @@ async function compareAll(name, shards, terms, query) {
   proofs?.forEach((proof, i) => {
     writeFileSync(at('both'), proof);
     const { status, out } = run(program, 'both', roots[i], query, at('both'));
-    see(`${name}, all of ${query} in ${i}`, status === 0, out.slice(0, 300));
+    see(`${name}, all of ${query} in ${i}`, status === 0, out);
   });
 }
 

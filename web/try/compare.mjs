@@ -1,34 +1,19 @@
 // Compares assembled bytes with the program's, over collections from a seed.
-// usage: node compare.mjs PROGRAM SEED QUESTIONS ROOM [NAME]    QUESTIONS of each collection; ROOM is a folder for
-// files        node compare.mjs PROGRAM SEED QUESTIONS ROOM INDEX2 TEXTS.json    over an archive that is there already
+// usage: node compare.mjs PROGRAM SEED QUESTIONS ROOM    QUESTIONS of each collection; ROOM is a folder for files
 
-import { execFileSync } from 'node:child_process';
-import { mkdirSync, readFileSync, writeFileSync } from 'node:fs';
-import { fileURLToPath } from 'node:url';
+import { readFileSync, writeFileSync } from 'node:fs';
 import { Assembler } from '../assembler.mjs';
 import { collections, drawer, question } from './collections.mjs';
 import { FolderHost } from './folder.mjs';
 import { checkOf } from './module.mjs';
-import { run, serve } from './program.mjs';
+import { archive, run, serve } from './program.mjs';
 import { termsOf } from './terms.mjs';
 
-const [program, seedWord, questionsWord, room, only, textsFile] = process.argv.slice(2);
-const seed = Number(seedWord), questions = Number(questionsWord),
-      make = fileURLToPath(new URL('../../owner/folder.py', import.meta.url));
-const at = name => `${room}/${name}`;
-mkdirSync(room, { recursive: true });
+const [program, seedWord, questionsWord, room] = process.argv.slice(2);
+const seed = Number(seedWord), questions = Number(questionsWord), at = name => `${room}/${name}`;
 
-// The program loads the index for each of its commands. Over a large one that takes too long to do often.
-const USUAL = {
-  prove: 40,
-  both: 12,
-  texts: Math.min(questions >> 2, 30)
-},
-      SELDOM = {
-        prove: 300,
-        both: 100,
-        texts: 2
-      };
+// The program loads the index for each of its commands, which takes too long to do often.
+const EVERY_PROOF = 40, EVERY_BOTH = 12, TEXTS = Math.min(questions >> 2, 30);
 const totals = { proofs: 0, both: 0, texts: 0 }, check = await checkOf();
 console.log(check ? 'each answer goes through the module of the page, which also gives the terms'
                   : 'skipped: the module of the page (web/out) is not made');
@@ -59,24 +44,25 @@ async function compareProofs(assembler, root, name, index, asked) {
   }
 }
 
-async function compare(name, texts, index, often) {
-  const draw = drawer(seed + 1), root = readFileSync(index).subarray(-32).toString('hex');
+async function compare(name, texts) {
+  const draw = drawer(seed + 1), root = archive(program, texts, room), index = at('index2');
   const assembler = new Assembler([new FolderHost(at('folder'))], { limits: { documents: 65536 } });
   const asked = Array.from({ length: questions }, () => question(draw, texts)).filter(({ query }) => termsOf(query));
   await compareProofs(assembler, root, name, index, asked);
   for (const [i, { query, r }] of asked.entries()) {
     const terms = termsOf(query);
-    if (i % often.prove === 0)
-      same('proofs', name, { query, r }, (await assembler.ranked({ roots: [root], terms, r }))[0],
-        stored('prove', index, 'tnra', `${r}`, query));
-    const all = i % often.both === 0 && stored('prove-both', index, query);
+    if (i % EVERY_PROOF === 0) {
+      const [ours] = await assembler.ranked({ roots: [root], terms, r });
+      same('proofs', name, { query, r }, ours, stored('prove', index, 'tnra', `${r}`, query));
+    }
+    const all = i % EVERY_BOTH === 0 && stored('prove-both', index, query);
     if (!all) continue;
     const [ours] = await assembler.both({ roots: [root], terms });
     same('both', name, query, ours, all);
     check?.both(ours, root, query);
   }
-  for (let i = 0; i < Math.min(texts.length, often.texts); i++) {
-    const doc = texts.length <= often.texts ? i : draw(texts.length);
+  for (let i = 0; i < Math.min(texts.length, TEXTS); i++) {
+    const doc = texts.length <= TEXTS ? i : draw(texts.length);
     const ours = await assembler.text({ root, doc });
     same('texts', name, doc, ours, stored('give', index, `${doc}`));
     check?.text(ours, root, doc);
@@ -85,17 +71,4 @@ async function compare(name, texts, index, often) {
   console.log(`${name}: ${texts.length} documents; so far equal: ${proofs} proofs, ${both} of all, ${files} texts`);
 }
 
-const laidOut = index => execFileSync('python3', [make, index, at('folder')]);
-if (textsFile) {
-  laidOut(only);
-  await compare(only, JSON.parse(readFileSync(textsFile)).map(item => item.text ?? item), only, SELDOM);
-} else {
-  for (const [name, texts] of Object.entries(collections(seed))) {
-    if (only && only !== name) continue;
-    writeFileSync(at('texts.json'), JSON.stringify(texts));
-    run(program, 'build', at('texts.json'), at('index'));
-    run(program, 'migrate', at('index'), at('index2'));
-    laidOut(at('index2'));
-    await compare(name, texts, at('index2'), USUAL);
-  }
-}
+for (const [name, texts] of Object.entries(collections(seed))) await compare(name, texts);

@@ -10,7 +10,7 @@ export class FolderHost {
 
   async read(path, from, to, question) {
     question?.began();
-    const gone = () => { throw hostFault('missing', path.replace(/.*\//, ''), 'not there'); };
+    const gone = () => { throw hostFault('missing', path, 'not there'); };
     const file = await open(`${this.folder}/${path}`).catch(gone);
     try {
       const { buffer, bytesRead } = await file.read(new Uint8Array(to - from), 0, to - from, from);

@@ -1,59 +1,36 @@
 // Hosts that lie about what they read: changed, cut, swapped, old, mixed, endless or failing reads. Each question must
 // end in a Fault with a word, or in the honest bytes. usage: node hostile.mjs PROGRAM SEED TRIALS ROOM
 
-import { execFileSync } from 'node:child_process';
-import { mkdirSync, writeFileSync } from 'node:fs';
-import { fileURLToPath } from 'node:url';
 import { Assembler } from '../assembler.mjs';
 import { joined } from '../bytes.mjs';
 import { MemoryCache } from '../cache.mjs';
 import { Fault } from '../fault.mjs';
 import { collections, drawer, question } from './collections.mjs';
 import { FolderHost } from './folder.mjs';
-import { run } from './program.mjs';
+import { archive } from './program.mjs';
 import { termsOf } from './terms.mjs';
 
 const [program, seed, trials, room] = process.argv.slice(2);
-const draw = drawer(Number(seed)), at = name => `${room}/${name}`, honest = new FolderHost(at('folder'));
-mkdirSync(room, { recursive: true });
+const draw = drawer(Number(seed)), honest = new FolderHost(`${room}/folder`);
 
-function prepared(name, texts) {
-  writeFileSync(at('texts.json'), JSON.stringify(texts));
-  run(program, 'build', at('texts.json'), at('index'));
-  const root = run(program, 'migrate', at('index'), at('index2')).out.trim();
-  execFileSync(
-    'python3', [fileURLToPath(new URL('../../owner/folder.py', import.meta.url)), at('index2'), at('folder')]);
-  return { root, name, texts };
-}
-
-const changed = (bytes, change) => { const copy = Uint8Array.from(bytes); change(copy); return copy; };
+const changed = change => ({ bytes }) => {
+  const copy = Uint8Array.from(bytes);
+  change(copy, bytes);
+  return copy;
+};
 const FILES = ['head', 'lists', 'dictionary', 'texts', 'texts-tree', 'documents-tree', 'terms'];
 const elsewhere = new Map();
 /** Each answers what the host gives for a read of `bytes`. */
 const lies = {
-  'one bit': ({ bytes }) => changed(bytes,
-    copy => {
-      copy[draw(copy.length)] ^= 1 << draw(8);
-    }),
-  'few bytes': ({ bytes }) => changed(bytes,
-    copy => {
-      for (let i = 0; i < 4; i++) copy[draw(copy.length)] = draw(256);
-    }),
-  'a byte at the front': ({ bytes }) => changed(bytes,
-    copy => {
-      copy[draw(Math.min(copy.length, 20))] = draw(256);
-    }),
-  'the last byte': ({ bytes }) => changed(bytes,
-    copy => {
-      copy[copy.length - 1] ^= 1 + draw(255);
-    }),
-  'two parts swapped': ({ bytes }) => {
+  'one bit': changed(copy => { copy[draw(copy.length)] ^= 1 << draw(8); }),
+  'few bytes': changed(copy => { for (let i = 0; i < 4; i++) copy[draw(copy.length)] = draw(256); }),
+  'a byte at the front': changed(copy => { copy[draw(Math.min(copy.length, 20))] = draw(256); }),
+  'the last byte': changed(copy => { copy[copy.length - 1] ^= 1 + draw(255); }),
+  'two parts swapped': changed((copy, bytes) => {
     const size = 1 + draw(40), a = draw(bytes.length), b = draw(bytes.length);
-    return changed(bytes, copy => {
-      copy.set(bytes.subarray(a, a + size).subarray(0, bytes.length - b), b);
-      copy.set(bytes.subarray(b, b + size).subarray(0, bytes.length - a), a);
-    });
-  },
+    copy.set(bytes.subarray(a, a + size).subarray(0, bytes.length - b), b);
+    copy.set(bytes.subarray(b, b + size).subarray(0, bytes.length - a), a);
+  }),
   cut: ({ bytes }) => bytes.slice(0, draw(bytes.length)),
   'nothing': () => new Uint8Array(0),
   zeros: ({ bytes }) => new Uint8Array(bytes.length),
@@ -67,9 +44,7 @@ const lies = {
   'the same range of another file': ({ path, from, to }) =>
     honest.read(path.replace(/[^/]*$/, FILES[draw(FILES.length)]), from, to),
   'what another read of the file got': ({ path, bytes }) => elsewhere.get(path) ?? bytes,
-  failing: () => {
-    throw new Fault('link', 'host: gone');
-  },
+  failing: () => { throw new Fault('link', 'host: gone'); },
 };
 
 /** A host that lies at one read in `one`, so that some lies come late. */
@@ -99,15 +74,15 @@ async function outcomeOf(ask, hosts, cache) {
     const bytes = await ask(new Assembler(hosts, { cache, limits: { total: 20000 } }));
     return Buffer.compare(bytes, await ask(new Assembler([honest]))) ? 'OTHER BYTES' : 'honest';
   } catch (fault) {
-    return fault instanceof Fault && fault.word && /^(host|input): [ -~]+$/.test(fault.line)
-      ? `fault ${fault.word}`
-      : `NO FAULT: ${fault.stack}`;
+    const isNamed = fault instanceof Fault && fault.word && /^(host|input): [ -~]+$/.test(fault.line);
+    return isNamed ? `fault ${fault.word}` : `NO FAULT: ${fault.stack}`;
   }
 }
 
 const { middle, edges, 'long and short': uneven } = collections(3);
-const archives = [prepared('middle', middle), prepared('edges', edges), prepared('uneven', uneven)];
-archives.forEach(own => { own.other = prepared(`${own.name} and one more`, [...own.texts, 'one more']); });
+const prepared = texts => ({ texts, root: archive(program, texts, room) });
+const archives = [middle, edges, uneven]
+  .map(texts => ({ ...prepared(texts), other: prepared([...texts, 'one more']) }));
 const found = {}, count = (name, outcome) => { (found[name] ??= {})[outcome] = (found[name][outcome] ?? 0) + 1; };
 let wrong = 0;
 for (let i = 0; i < Number(trials); i++) {
@@ -115,8 +90,8 @@ for (let i = 0; i < Number(trials); i++) {
   const asked = { ...question(draw, own.texts), doc: draw(own.texts.length) }, kind = Object.keys(kinds)[draw(4)];
   asked.terms = termsOf(asked.query);
   if (!asked.terms) continue;
-  const ask = assembler => kinds[kind](assembler, own, asked), liar = lying(own, lie, 1 + draw(6)),
-        cache = new MemoryCache();
+  const ask = assembler => kinds[kind](assembler, own, asked);
+  const liar = lying(own, lie, 1 + draw(6)), cache = new MemoryCache();
   let outcome = await outcomeOf(ask, [liar], cache);
   count(lie, outcome);
   // After the liar an honest mirror answers, though the liar's places may be kept.

@@ -1,12 +1,12 @@
-// Requests, rounds, bytes, milliseconds, those of the processor, and those of the check, of questions. usage: node
-// measure.mjs BASE ROOT WORDS.json [ROUND_TRIP_MS BYTES_PER_MS] BASE is an address or a folder; ROOT is an archive's or
-// a catalog's; WORDS.json has the words of the texts, the most frequent first. The heads are read before.
+// Requests, rounds, bytes, milliseconds, those of the processor, and those of the check, of questions.
+// usage: node measure.mjs BASE ROOT WORDS.json [ROUND_TRIP_MS BYTES_PER_MS]
+// BASE is an address; ROOT is an archive's or a catalog's; WORDS.json has the words of the texts, the most frequent
+// first. The heads are read before.
 
 import { readFileSync } from 'node:fs';
 import { Assembler } from '../assembler.mjs';
 import { catalogFile } from '../shown.mjs';
 import { HttpHost } from '../http.mjs';
-import { FolderHost } from './folder.mjs';
 import { checkOf } from './module.mjs';
 import { termsOf } from './terms.mjs';
 
@@ -52,7 +52,7 @@ const headOnly = () => {
   };
 };
 
-const plain = base.startsWith('http') ? new HttpHost(base) : new FolderHost(base), check = await checkOf();
+const plain = new HttpHost(base), check = await checkOf();
 const roots = await new Assembler([plain]).roots({ root }), isMany = roots[0] !== root;
 /** What is asked too much for one question is said so. */
 const measured = (...words) => measure(...words).catch(fault => {
@@ -71,9 +71,8 @@ async function measure(label, ask, judge) {
     const { user, system } = process.cpuUsage(before);
     found.push([performance.now() - start, (user + system) / 1000]);
   }
-  const { requests, rounds, bytes: fetched } = host.count,
-                                           middle = i =>
-                                             found.map(it => it[i]).sort((a, b) => a - b)[times >> 1].toFixed(0);
+  const { requests, rounds, bytes: fetched } = host.count;
+  const middle = i => found.map(it => it[i]).sort((a, b) => a - b)[times >> 1].toFixed(0);
   const bytes = [got].flat().reduce((sum, { length }) => sum + length, 0);
   console.log(`| ${label} | ${bytes} | ${requests} / ${rounds} | ${fetched} | ${middle(0)} | ${middle(1)} `
     + `| ${judge && check ? judge(got).toFixed(0) : ''} |`);

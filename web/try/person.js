@@ -141,11 +141,7 @@
       let copied;
       Object.defineProperty(navigator, 'clipboard', {
         configurable: true,
-        value: {
-          writeText: async it => {
-            copied = it;
-          }
-        }
+        value: { writeText: async it => { copied = it; } },
       });
       $(id).click();
       while (copied === undefined) await moment();

@@ -6,16 +6,11 @@ import { readFileSync } from 'node:fs';
 import { Reading } from '../reading.mjs';
 import { collections, drawer, folded } from './collections.mjs';
 import { checkOf } from './module.mjs';
+import { see } from './program.mjs';
 import { wordsOf } from './terms.mjs';
 
 const PHRASES = 20, LONGEST_MS = 3000;
 const check = await checkOf(), reading = new Reading(check.query), draw = drawer(7);
-let failed = 0;
-
-function see(about, right, got = '') {
-  if (!right) failed++;
-  console.log(`${right ? 'as wanted' : 'OTHERWISE'}: ${about}${got}`);
-}
 
 const same = (a, b) => a.length === b.length && a.every((it, i) => it === b[i]);
 const stands = (words, phrase) => words.some((_, i) => phrase.every((word, k) => words[i + k] === word));
@@ -27,11 +22,11 @@ function compare(name, texts) {
     other < 0 ? '' : ` but text ${other}`);
   let hits = 0, wrong = 0;
   for (let i = 0; i < PHRASES; i++) {
-    const from = plain[draw(plain.length)], at = draw(Math.max(from.length - 3, 1)),
-          phrase = from.slice(at, at + 2 + draw(2));
+    const from = plain[draw(plain.length)], at = draw(Math.max(from.length - 3, 1));
+    const phrase = from.slice(at, at + 2 + draw(2));
     if (phrase.length < 2) continue;
     if (draw(4) === 0) phrase.reverse();
-    const asked = reading.sequence(`${phrase.join(' ')}`);
+    const asked = reading.sequence(phrase.join(' '));
     texts.forEach((text, k) => {
       if (!plain[k].includes(phrase[0])) return;
       const is = stands(plain[k], phrase);
@@ -55,9 +50,8 @@ const hits = 'a '.repeat(2 ** 19), start = performance.now(), { count } = readin
 reading.excerpt(hits, [['a']], false);
 const ms = performance.now() - start;
 see('1 MiB of hits', count === 2 ** 19 && ms < LONGEST_MS, ` in ${Math.round(ms)} ms`);
-const long = 'a-'.repeat(2 ** 19), begun = performance.now(), all = reading.sequence(long).length,
-      later = performance.now() - begun;
+const long = 'a-'.repeat(2 ** 19), begun = performance.now(), all = reading.sequence(long).length;
+const later = performance.now() - begun;
 see('1 MiB without a space', all === 2 ** 19 && later < 10 * LONGEST_MS, ` in ${Math.round(later)} ms`);
 const one = reading.sequence('x'.repeat(2 ** 20));
 see('1 MiB of one word', one.length === 0);
-process.exitCode = failed ? 1 : 0;

@@ -1,33 +1,27 @@
 // Plays the vectors of the checks and of words with page.wasm: in a page that web/test serves, or in Node:
 // node web/try/play.mjs web/out
-import { bytesOfHex as bytesOf } from '../bytes.mjs';
+import { bytesOfHex as bytesOf, joined } from '../bytes.mjs';
 import { checker, compile, linesOf } from '../check.mjs';
 
 const FILES = ['proofs', 'changed', 'made', 'inputs', 'large', 'both', 'catalogs', 'texts', 'growths', 'words'];
 
 function changed(proof, changes) {
   for (const [start, end, digits] of changes) {
-    proof = Uint8Array.from([...proof.slice(0, start), ...bytesOf(digits), ...proof.slice(end)]);
+    proof = joined([proof.subarray(0, start), bytesOf(digits), proof.subarray(end)]);
   }
   return proof;
 }
 
 // The bytes of parts, as vectors/README.md says.
-function joined(parts) {
-  const pieces = parts.flatMap(([digits, times = 1, first]) => {
-    const piece = bytesOf(digits), front = first === undefined ? 0 : 4,
-          out = new Uint8Array((front + piece.length) * times);
-    for (let i = 0; i < times; i++) {
-      const at = i * (front + piece.length);
-      if (front) new DataView(out.buffer).setUint32(at, first + i);
-      out.set(piece, at + front);
-    }
-    return [out];
-  });
-  const out = new Uint8Array(pieces.reduce((sum, it) => sum + it.length, 0));
-  pieces.reduce((at, it) => (out.set(it, at), at + it.length), 0);
+const spelt = parts => joined(parts.map(([digits, times = 1, first]) => {
+  const piece = bytesOf(digits), front = first === undefined ? 0 : 4, size = front + piece.length;
+  const out = new Uint8Array(size * times);
+  for (let i = 0; i < times; i++) {
+    if (front) new DataView(out.buffer).setUint32(i * size, first + i);
+    out.set(piece, i * size + front);
+  }
   return out;
-}
+}));
 
 /**
  * Each vector for proofs: file, what it is about, the proof, root, query, r, and the status and lines that are wanted.
@@ -37,20 +31,15 @@ function* proofs(files) {
   for (const [about, it] of Object.entries(files.proofs)) yield whole('proofs', about, it);
   for (const it of files.changed) {
     const of = files.proofs[it.of];
-    yield {
-      ...of,
-      ...it,
-      file: 'changed',
-      about: `${it.of}: ${it.about}`,
-      proof: changed(bytesOf(of.proof), it.changes)
-    };
+    const about = `${it.of}: ${it.about}`, proof = changed(bytesOf(of.proof), it.changes);
+    yield { ...of, ...it, file: 'changed', about, proof };
   }
   for (const it of files.made) yield whole('made', it.about, it);
   for (const it of files.inputs) {
     const made = { proof: new Uint8Array(it.zeros), root: '00'.repeat(32), query: it.text.repeat(it.times) };
     yield { ...it, ...made, file: 'inputs', about: it.lines[0] };
   }
-  for (const it of files.large) yield { ...it, file: 'large', proof: joined(it.proof) };
+  for (const it of files.large) yield { ...it, file: 'large', proof: spelt(it.proof) };
 }
 
 /** Each vector of a check: file, what it is about, what is wanted, and what the call answers. */
@@ -59,25 +48,19 @@ function* cases(it, files) {
     yield { file, about, status, lines, bytes: proof.length, got: it.check(proof, bytesOf(root), query, r) };
   }
   for (const { about, proof, root, query, status, lines } of files.both) {
-    yield { file: 'both', about, status, lines, got: it.both(joined(proof), bytesOf(root), query) };
+    yield { file: 'both', about, status, lines, got: it.both(spelt(proof), bytesOf(root), query) };
   }
   for (const { about, proof, root, roots, query, r, status, lines } of files.catalogs) {
     yield { file: 'catalogs', about, status, lines, got: it.catalog(bytesOf(proof), bytesOf(root), query, r) };
     if (roots) yield { file: 'catalogs', about, status: 0, lines: [root], got: it.catalogRoot(roots.map(bytesOf)) };
   }
   for (const { about, file, root, document: doc, status, text, lines } of files.texts) {
-    const got = it.text(joined(file), bytesOf(root), doc);
-    yield {
-      file: 'texts',
-      about,
-      status,
-      lines: status === 0 ? [...joined(text)] : lines,
-      got,
-      shown: got.text && [...got.text]
-    };
+    const got = it.text(spelt(file), bytesOf(root), doc);
+    const wanted = status === 0 ? [...spelt(text)] : lines;
+    yield { file: 'texts', about, status, lines: wanted, got, shown: got.text && [...got.text] };
   }
   for (const { about, file, old_root: old, new_root: now, status, lines } of files.growths) {
-    yield { file: 'growths', about, status, lines, got: it.growth(joined(file), bytesOf(old), bytesOf(now)) };
+    yield { file: 'growths', about, status, lines, got: it.growth(spelt(file), bytesOf(old), bytesOf(now)) };
   }
   for (const { text, terms } of files.words.filter(isQuery)) {
     const got = it.query(text), shown = got.terms.map(({ term, weight }) => [new TextDecoder().decode(term), weight]);

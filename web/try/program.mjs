@@ -1,9 +1,18 @@
-// The program, to compare with: its commands, and one link to its server.
+// The program, to compare with: its commands, the folders of archives, and one link to its server. And what a script
+// sees.
 
 import { execFileSync, spawn } from 'node:child_process';
+import { mkdirSync, writeFileSync } from 'node:fs';
 import { createConnection, createServer } from 'node:net';
+import { fileURLToPath } from 'node:url';
 
-const LOADING_MS = 300000;
+const LOADING_MS = 300000, FOLDER = fileURLToPath(new URL('../../owner/folder.py', import.meta.url));
+
+/** Says whether something is as wanted. One that is not fails the script. */
+export function see(about, right, got = '') {
+  if (!right) process.exitCode = 1;
+  console.log(`${right ? 'as wanted' : 'OTHERWISE'}: ${about}${got}`);
+}
 
 /** The frame of a request for the best r documents, as docs/formats.md has it. */
 function request(r, query) {
@@ -17,14 +26,23 @@ function request(r, query) {
 /** Runs a command: { status, out }. */
 export function run(program, ...words) {
   try {
-    return {
-      status: 0,
-      out: execFileSync(program, words, { maxBuffer: 2 ** 28, stdio: ['ignore', 'pipe', 'ignore'] }).toString()
-    };
+    const out = execFileSync(program, words, { maxBuffer: 2 ** 28, stdio: ['ignore', 'pipe', 'ignore'] });
+    return { status: 0, out: out.toString() };
   } catch (fault) {
     if (typeof fault.status !== 'number') throw fault;
     return { status: fault.status, out: fault.stdout.toString() };
   }
+}
+
+/** Makes the archive of these texts in a room, and its folder in one for all: its root. */
+export function archive(program, texts, room) {
+  mkdirSync(room, { recursive: true });
+  const [collection, one, two] = ['texts.json', 'index', 'index2'].map(name => `${room}/${name}`);
+  writeFileSync(collection, JSON.stringify(texts));
+  run(program, 'build', collection, one);
+  const root = run(program, 'migrate', one, two).out.trim();
+  execFileSync('python3', [FOLDER, two, `${room}/folder`]);
+  return root;
 }
 
 const freePort = () => new Promise(done => {

@@ -6,10 +6,7 @@ import { folded } from './collections.mjs';
 
 const RUN = /[A-Za-z0-9_]+(?:(?:(?<=[A-Za-z])['.:](?=[A-Za-z])|(?<=[0-9])['.,;](?=[0-9]))[A-Za-z0-9_]+)*/g;
 const bytesOf = text => new TextEncoder().encode(text);
-const runs = text => [...text.matchAll(RUN)]
-                       .map(([run]) => run)
-                       .filter(run => /[A-Za-z0-9]/.test(run))
-                       .map(run => run.toLowerCase());
+const runs = text => (text.match(RUN) ?? []).filter(run => /[A-Za-z0-9]/.test(run)).map(run => run.toLowerCase());
 const lowered = word => /^[\0-\x7f]*$/.test(word) ? runs(word) : [folded.get(word) ?? word];
 
 /** The words of a text of ASCII in their order. */
@@ -20,10 +17,8 @@ export function termsOf(query) {
   const weights = new Map();
   for (const word of query.split(' ').flatMap(lowered))
     if (bytesOf(word).length <= 64) weights.set(word, (weights.get(word) ?? 0) + 1);
-  const terms = [
-    ...weights
-  ].map(([word, weight]) => ({ term: bytesOf(word),
-     weight })).sort((a, b) => compareBytes(a.term, b.term));
+  const terms = Array.from(weights, ([word, weight]) => ({ term: bytesOf(word), weight }));
+  terms.sort((a, b) => compareBytes(a.term, b.term));
   const all = terms.reduce((sum, { weight }) => sum + weight, 0);
   return terms.length >= 1 && terms.length <= 32 && all <= 255 && bytesOf(query).length <= 4000 ? terms : undefined;
 }
