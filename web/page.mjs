@@ -14,7 +14,7 @@ import {
   listed, number, quoted, reasonOf,
 } from './sentences.mjs';
 import { Source } from './source.mjs';
-import { $, announce, on, progress, say, show, sizeOf, write } from './view.mjs';
+import { $, announce, element, on, progress, say, show, sizeOf, write } from './view.mjs';
 import { Whole } from './whole.mjs';
 
 const A_PAGE = 10, MOST_ROWS = 1000;
@@ -244,7 +244,7 @@ function accepted(answer) {
   const { way, r, all, words, found, docs, root } = answer, count = docs.length, archives = answer.shards.length;
   verdict(true, headingOf({ way, found: count, r, all, words: words.all.length, archives }), '');
   const notes = notesOf(answer);
-  $('notes').replaceChildren(...notes.map(note => Object.assign(document.createElement('li'), { textContent: note })));
+  $('notes').replaceChildren(...notes.map(note => element('li', note)));
   if (notes.length) announce(`${$('verdict').textContent.slice(2)}. ${notes.join(' ')}`);
   write('checked', checkedOf({ way, found: count, r, root, archives }));
   write('counting', '');
@@ -255,16 +255,14 @@ function accepted(answer) {
   if (state.doc !== undefined) openText(state.doc);
 }
 
-/** @param {Uint8Array[]} proofs */
-const lengthOf = proofs => proofs.reduce((sum, { length }) => sum + length, 0);
-
 /** @param {Answer} answer */
 function factsOf({ query, proofs, got, from, ms, words }) {
+  const size = proofs.reduce((sum, { length }) => sum + length, 0);
   const came = from
     ? `From the file ${quoted(from.name)}, which says that it was saved on ${quoted(from.date.slice(0, 10))}.`
     : `The proof came in ${duration(ms)}.`;
   return `Query ${quoted(query)}. Words searched for: ${listed(words.all)}. ${came} It has `
-    + `${sizeOf(lengthOf(proofs))} and was checked in ${duration(got.ms)}.`;
+    + `${sizeOf(size)} and was checked in ${duration(got.ms)}.`;
 }
 
 /** @param {Answer} answer */
@@ -302,22 +300,24 @@ function question() {
  * @param {AbortSignal} signal
  * @param {Map<string, Uint8Array>} [texts] that are there already
  */
-async function answerTo(asked, signal, texts = new Map()) {
-  const it = asking(), limit = await it.beyondLimits(asked, signal);
-  signal.throwIfAborted();
-  if (limit) return verdict(false, 'Not asked', reasonOf(limit, asked.way), { line: limit.line });
+const answerTo = (asked, signal, texts = new Map()) => judged(asked, 'Not asked', signal, async words => {
+  const way = words.together.length ? 'all' : asked.way, question = { ...asked, way, r: way === 'all' ? 0 : asked.r };
   say('Searching …');
-  const words = await it.words(asked, signal), way = words.together.length ? 'all' : asked.way;
-  const answer = await it.answer({ ...asked, way, r: way === 'all' ? 0 : asked.r }, words, { signal, progress });
-  await judged({ ...answer, texts }, signal);
-}
+  return { ...await asking().answer(question, words, { signal, progress }), texts };
+});
 
 /**
- * @param {Answer} answer
+ * Shows the answer to a question that breaks no limit.
+ * @param {Question} asked
+ * @param {string} otherwise what it is else
  * @param {AbortSignal} signal
+ * @param {(words: import('./asking.mjs').Words) => Promise<Answer>} make
  */
-async function judged(answer, signal) {
-  const { got, words, docs, from } = answer;
+async function judged(asked, otherwise, signal, make) {
+  const limit = await asking().beyondLimits(asked, signal);
+  signal.throwIfAborted();
+  if (limit) return verdict(false, otherwise, reasonOf(limit, asked.way), { line: limit.line });
+  const answer = await make(await asking().words(asked, signal)), { got, words, docs, from } = answer;
   if (got.status === 0 && words.together.length && !from) {
     say(`Reading the texts of ${documents(docs.length)} …`);
     answer.found = await asking().find(answer, { signal, progress });
@@ -370,9 +370,8 @@ function more() {
   state.shown += A_PAGE;
   const next = state.shown - A_PAGE, focused = () => $('list').querySelectorAll('.open')[next]?.focus();
   if (answer.way === 'all' || answer.docs.length > next) { listShown(answer); return focused(); }
-  const { root, way, typed, query, phrases, passed } = answer, r = Math.min(state.shown, MOST_ROWS);
-  return working(signal => answerTo({ root, way, typed, query, r, phrases, passed }, signal, answer.texts))
-    .then(focused);
+  const r = Math.min(state.shown, MOST_ROWS);
+  return working(signal => answerTo({ ...answer, r }, signal, answer.texts)).then(focused);
 }
 
 // ---- a whole text
@@ -451,9 +450,7 @@ async function judgeFile(file, signal) {
   const asked = { ...file, root, shards: isCatalog(file) ? file.shards : [root] };
   $(way === 'all' ? 'all' : 'best').checked = true;
   $('query').value = query;
-  const it = asking(), limit = await it.beyondLimits(asked, signal);
-  if (limit) return verdict(false, 'Not checked', reasonOf(limit, way), { line: limit.line });
-  await judged(await it.judged({ ...asked, words: await it.words(asked, signal), ms: 0 }, signal), signal);
+  await judged(asked, 'Not checked', signal, words => asking().judged({ ...asked, words, ms: 0 }, signal));
 }
 
 function checkUnderOther() {
@@ -510,16 +507,17 @@ async function lie() {
 
 // ---- the start
 
-const NO_FILE = name => `The file ${name} did not come, or is not the page’s own. Load or get the page again.`;
 const NO_BROWSER = 'This browser cannot run the check: it needs WebAssembly.';
 
 // The digests of the files beside this one, which the browser compares as they are fetched.
 const pins = JSON.parse($('pins').textContent);
 
 async function pinned(name) {
-  const failing = () => { throw new Error(NO_FILE(name)); };
-  const reply = await fetch(name, { integrity: pins[name], credentials: 'omit' }).catch(failing);
-  return reply.blob().catch(failing);
+  try {
+    return await (await fetch(name, { integrity: pins[name], credentials: 'omit' })).blob();
+  } catch {
+    throw new Error(`The file ${name} did not come, or is not the page’s own. Load or get the page again.`);
+  }
 }
 
 /** The hosts of a link, or the one that this page came from. */
