@@ -68,7 +68,7 @@ export class Asking {
     const found = this.#shards.get(root) ?? await this.#source.ask('roots', { root }, { signal });
     if (!await this.#isOf(root, found, signal)) {
       throw new Fault('wrong', 'host: the roots of the archives: of another catalog',
-        { said: 'The host’s list of archives is not this catalog’s. Ask another host, and tell the owner.' });
+        'The host’s list of archives is not this catalog’s. Ask another host, and tell the owner.');
     }
     this.#shards.set(root, found);
     return found;
@@ -158,7 +158,7 @@ export class Asking {
    */
   async words({ query, phrases }, signal) {
     const got = await this.#checks.call('query', [query], { signal });
-    if (got.status !== 0) throw new Fault('input', got.line, { said: reasonOf(got) });
+    if (got.status !== 0) throw new Fault('input', got.line, reasonOf(got));
     const all = got.terms.map(({ term }) => new TextDecoder().decode(term));
     const sequences = await Promise.all(phrases.map(phrase => this.#checks.call('sequence', [phrase], { signal })));
     const together = sequences.filter(words => words.length > 1), inside = new Set(together.flat());
@@ -214,7 +214,7 @@ export class Asking {
   async read(answer, call, name, words, signal) {
     const { shards, texts, from } = answer, { shard, doc } = placeOf(name);
     const root = shards[shard], kept = texts.get(name);
-    if (from && !kept) throw new Fault('missing', 'no text in the file', { said: 'The saved file does not have it.' });
+    if (from && !kept) throw new Fault('missing', 'no text in the file', 'The saved file does not have it.');
     const file = kept ?? await this.#source.ask('text', { root, doc }, { signal });
     const it = await this.#checks.call(call, [file, bytesOfHex(root), doc, ...words], { signal });
     if (it.got.status === 0 && call !== 'holds') texts.set(name, file);

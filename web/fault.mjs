@@ -10,15 +10,14 @@ export class Fault extends Error {
   /**
    * @param {string} word
    * @param {string} line
-   * @param {{ said?: string, cause?: unknown }} [more]
+   * @param {string} [said]
    */
-  constructor(word, line, more = {}) {
+  constructor(word, line, said = '') {
     super(`${word}: ${line}`);
     this.name = 'Fault';
     this.word = word;
     this.line = line;
-    this.said = more.said ?? '';
-    this.cause = more.cause;
+    this.said = said;
   }
 }
 
@@ -27,10 +26,8 @@ export class Fault extends Error {
  * @param {string} word
  * @param {string} path of the file
  * @param {string} what
- * @param {unknown} [cause]
  */
-export const hostFault = (word, path, what, cause) =>
-  new Fault(word, `host: ${path.replace(/.*\//, '')}: ${what}`, { cause });
+export const hostFault = (word, path, what) => new Fault(word, `host: ${path.replace(/.*\//, '')}: ${what}`);
 
 /**
  * What went wrong, if it is no Fault of its own: the check stopped.

@@ -182,7 +182,7 @@ export class HttpHost {
       } catch (fault) {
         question.signal.throwIfAborted();
         if (watch.isSilent) throw hostFault('silent', path, `nothing for ${question.limits.silence} ms`);
-        throw fault instanceof Fault ? fault : hostFault('link', path, `${fault}`, fault);
+        throw fault instanceof Fault ? fault : hostFault('link', path, `${fault}`);
       } finally {
         watch.end();
       }
@@ -217,7 +217,7 @@ export class HttpHost {
     } catch (fault) {
       question.signal.throwIfAborted();
       if (fault instanceof Fault && fault.word === 'long') throw fault;
-      throw hostFault('link', path, 'the whole file did not come', fault);
+      throw hostFault('link', path, 'the whole file did not come');
     }
   }
 }

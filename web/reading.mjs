@@ -56,18 +56,11 @@ export class Reading {
    * @param {boolean} titles whether first lines are titles
    */
   excerpt(text, sequences, titles) {
-    const { title, start } = titled(text, titles),
-                         hits = this.#hits(text, sequences).filter(({ from }) => from >= start);
+    const { title, start } = titled(text, titles), { length } = text;
+    const hits = this.#hits(text, sequences).filter(({ from }) => from >= start);
     const [from, to] = excerptOf(text, start, bestHits(hits));
     const marks = apart(hits.filter(it => it.from >= from && it.to <= to)).map(it => [it.from - from, it.to - from]);
-    return {
-      title,
-      text: text.slice(from, to),
-      marks,
-      before: from > start,
-      after: to < text.length,
-      length: text.length
-    };
+    return { title, text: text.slice(from, to), marks, before: from > start, after: to < length, length };
   }
 
   /**
@@ -76,22 +69,14 @@ export class Reading {
    * @param {string[][]} sequences
    */
   whole(text, sequences) {
-    const hits = apart(this.#hits(text, sequences));
-    return {
-      text,
-      hits: hits.slice(0, MOST_HITS).map(({ from, to }) => [from, to]),
-      count: hits.length,
-      isLaidOut: isLaidOut(text)
-    };
+    const all = apart(this.#hits(text, sequences)), hits = all.slice(0, MOST_HITS).map(({ from, to }) => [from, to]);
+    return { text, hits, count: all.length, isLaidOut: isLaidOut(text) };
   }
 
   /** @param {string} text */
   #wordsOf(text) {
-    const words = [];
-    for (const { 0: piece, index = 0 } of text.matchAll(BETWEEN_SPACES)) {
-      for (const { term, from, to } of this.#inPiece(piece)) words.push({ term, from: index + from, to: index + to });
-    }
-    return words;
+    const pieces = [...text.matchAll(BETWEEN_SPACES)];
+    return pieces.flatMap(({ 0: piece, index = 0 }) => moved(this.#inPiece(piece), index));
   }
 
   /**
@@ -100,16 +85,13 @@ export class Reading {
    * @returns {Hit[]}
    */
   #hits(text, sequences) {
-    const words = this.#wordsOf(text),
-          begins = new Map(sequences.map(([first]) => [first, /** @type {number[]} */ ([])])), hits = [];
-    sequences.forEach(([first], which) => begins.get(first)?.push(which));
-    const stands = (sequence, i) => sequence.every((term, k) => words[i + k]?.term === term);
-    for (let i = 0; i < words.length; i++) {
-      for (const which of begins.get(words[i].term) ?? []) {
-        const last = i + sequences[which].length - 1;
-        if (stands(sequences[which], i)) hits.push({ which, from: words[i].from, to: words[last].to });
-      }
-    }
+    /** @type {Hit[]} */
+    const hits = [];
+    const words = this.#wordsOf(text);
+    words.forEach(({ from }, i) => sequences.forEach((sequence, which) => {
+      const stands = sequence.every((term, k) => words[i + k]?.term === term);
+      if (stands) hits.push({ which, from, to: words[i + sequence.length - 1].to });
+    }));
     return hits;
   }
 
@@ -164,10 +146,8 @@ export class Reading {
   #halved(piece) {
     const middle = piece.length >> 1;
     for (let i = 0; i < middle; i++) {
-      for (const at of [middle + i, middle - i]) {
-        if (this.#isCut(piece, at))
-          return [...this.#inPiece(piece.slice(0, at)), ...moved(this.#inPiece(piece.slice(at)), at)];
-      }
+      const at = [middle + i, middle - i].find(it => this.#isCut(piece, it));
+      if (at) return [...this.#inPiece(piece.slice(0, at)), ...moved(this.#inPiece(piece.slice(at)), at)];
     }
     const bag = this.#bag(piece);
     return bag ? this.#split(piece, bag) : [];
@@ -180,9 +160,9 @@ export class Reading {
    */
   #isCut(text, at) {
     if (!mayCut(text, at) || JOINING.test(text.slice(at - 1, at + 2))) return false;
-    const [front, back] = [text.slice(Math.max(at - NEAR, 0), at), text.slice(at, at + NEAR)];
+    const front = text.slice(Math.max(at - NEAR, 0), at), back = text.slice(at, at + NEAR);
     const [all, ...parts] = [front + back, front, back].map(part => this.#bag(part));
-    return Boolean(all && parts[0] && parts[1] && isSum(all, parts[0], parts[1]));
+    return isSum(all, parts[0], parts[1]);
   }
 
   /**
@@ -207,13 +187,13 @@ export class Reading {
 const moved = (words, by) => words.map(({ term, from, to }) => ({ term, from: from + by, to: to + by }));
 
 /**
- * Whether the first bag has just what the others have.
- * @param {Bag} all
- * @param {Bag} front
- * @param {Bag} back
+ * Whether all are there, and the first bag has just what the others have.
+ * @param {Bag | undefined} all
+ * @param {Bag | undefined} front
+ * @param {Bag | undefined} back
  */
-const isSum = (all, front, back) => all.count === front.count + back.count
-  && [...all.words].every(([word, count]) => count === (front.words.get(word) ?? 0) + (back.words.get(word) ?? 0));
+const isSum = (all, front, back) => Boolean(all && front && back && all.count === front.count + back.count
+  && [...all.words].every(([word, count]) => count === (front.words.get(word) ?? 0) + (back.words.get(word) ?? 0)));
 
 /**
  * Never inside a character, nor between two plain letters or digits.
@@ -228,8 +208,8 @@ const mayCut = (text, at) => !/[\udc00-\udfff]/.test(text[at]) && !PLAIN.test(te
  * @param {string} piece
  */
 function placed(term, piece) {
-  const from = piece.search(/[\p{L}\p{N}\p{M}_]/u);
-  return { term, from: Math.max(from, 0), to: Math.max(from, 0) + piece.replace(EDGES, '').length };
+  const from = Math.max(piece.search(/[\p{L}\p{N}\p{M}_]/u), 0);
+  return { term, from, to: from + piece.replace(EDGES, '').length };
 }
 
 /**
@@ -295,8 +275,8 @@ function edge(text, at) {
  */
 function titled(text, titles) {
   const from = Math.max(text.search(/\S/), 0), found = text.indexOf('\n', from), end = found < 0 ? text.length : found;
-  const line = text.slice(from, end).trim(),
-        title = line.length > TITLE ? `${line.slice(0, edge(line, TITLE - 20)).trim()} …` : line;
+  const line = text.slice(from, end).trim(), short = line.slice(0, edge(line, TITLE - 20)).trim();
+  const title = line.length > TITLE ? `${short} …` : line;
   return { title, start: titles && line.length <= TITLE ? Math.min(end + 1, text.length) : 0 };
 }
 

@@ -6,7 +6,7 @@ import { documentOf } from './places.mjs';
 import { capital, faultWords, reasonOf, scoreOf } from './sentences.mjs';
 import { element, marked } from './view.mjs';
 
-const TEXTS_AT_ONCE = 4;
+const TEXTS_AT_ONCE = 4, COMING = 'The text is on its way …';
 
 /** @typedef {import('./asking.mjs').Answer} Answer */
 
@@ -59,7 +59,7 @@ export class Results {
   #item({ way, rows }, doc, i) {
     const name = documentOf(doc), link = element('a', capital(name), { href: this.#linkTo(doc), className: 'open' });
     const title = element('h3', [link], { className: 'title', dir: 'auto' });
-    const text = element('p', 'The text is on its way …', { className: 'text', dir: 'auto' });
+    const text = element('p', COMING, { className: 'text', dir: 'auto' });
     const says = way === 'best' ? `${i + 1}. ${capital(name)} · ${scoreOf(rows[i])}` : capital(name);
     const frame = element('div', [title, text], { className: 'frame' });
     frame.setAttribute('role', 'group');
@@ -98,15 +98,15 @@ export class Results {
    */
   #missing(answer, doc, item, why) {
     const again = element('button', 'Ask again for this text', { type: 'button', className: 'small' });
+    part(item, '.text').textContent = '';
+    const noted = note(item, `The text did not come. ${faultWords(why)}`, 'What the page saw:', why.line);
+    noted.append(' ', again);
     again.addEventListener('click', () => {
-      part(item, '.text').textContent = 'The text is on its way …';
-      item.querySelectorAll('.note').forEach(it => it.remove());
+      part(item, '.text').textContent = COMING;
+      noted.remove();
       item.setAttribute('aria-busy', 'true');
       this.#fill(answer, doc, item);
     });
-    part(item, '.text').textContent = '';
-    note(item, `The text did not come. ${faultWords(why)}`, 'What the page saw:', why.line);
-    part(item, '.note').append(' ', again);
   }
 }
 
@@ -117,6 +117,7 @@ function note(item, says, whose, line) {
   const it = element('p', `${says} `, { className: 'small note' });
   it.append(whose, ' ', element('code', line));
   item.append(it);
+  return it;
 }
 
 function text(item, { title, text: shown, marks, before, after, length }) {

@@ -13,6 +13,6 @@ export const ofShards = (shards, work) => Promise.all(shards.map(async (shard, n
     return await work(shard, number);
   } catch (fault) {
     if (!(fault instanceof Fault) || shards.length === 1) throw fault;
-    throw new Fault(fault.word, fault.line.replace(/^host: /, `host: shard ${number}: `), fault);
+    throw new Fault(fault.word, fault.line.replace(/^host: /, `host: shard ${number}: `));
   }
 }));

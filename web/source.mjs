@@ -28,7 +28,8 @@ export class Source {
    */
   ask(call, words, how) {
     return this.#calls.call(call, words, how).catch(fault => {
-      throw fault instanceof Fault ? new Fault(fault.word, fault.line, { said: saidOf(fault) }) : fault;
+      if (fault instanceof Fault) fault.said = saidOf(fault);
+      throw fault;
     });
   }
 }

@@ -13,9 +13,9 @@ const CHUNK = 8000; // UTF-16 units
 
 /** The text that is open, if one is. */
 export class Whole {
-  #text = ''; #count = 0; #current = 0; #first = -1;
-  /** @type {[number, number][]} */
-  #hits = [];
+  #current = 0; #first = -1;
+  /** @type {{ text: string, hits: [number, number][], count: number }} */
+  #open = { text: '', hits: [], count: 0 };
   /** @type {Chunk[]} */
   #chunks = [];
 
@@ -24,16 +24,15 @@ export class Whole {
    * @param {string} title
    * @param {{ text: string, hits: [number, number][], count: number, isLaidOut: boolean }} whole
    */
-  open(title, { text, hits, count, isLaidOut }) {
-    this.#text = text;
-    this.#hits = hits;
-    this.#count = count;
+  open(title, whole) {
+    const { text, hits, isLaidOut } = whole;
+    this.#open = whole;
     this.#first = -1;
     this.#chunks = chunksOf(text);
     write('whole-title', title);
     $('whole-text').classList.toggle('laid-out', isLaidOut);
-    $('whole-text').replaceChildren(...(text ? this.#chunks.map(({ place }) => place) : [element(
-                                          'em', 'This document is empty.')]));
+    const empty = element('em', 'This document is empty.');
+    $('whole-text').replaceChildren(...(text ? this.#chunks.map(({ place }) => place) : [empty]));
     ['earlier', 'later', 'hit'].forEach(id => show(id, hits.length > 0));
     show('whole', true);
     $('whole').scrollIntoView({ block: 'start' });
@@ -42,7 +41,6 @@ export class Whole {
   }
 
   close() {
-    this.#hits = [];
     this.#chunks = [];
     $('whole-text').replaceChildren();
     show('whole', false);
@@ -50,18 +48,18 @@ export class Whole {
 
   /** @param {number} by */
   turn(by) {
-    if (this.#hits.length) this.#show((this.#current + by + this.#hits.length) % this.#hits.length);
+    const { length } = this.#open.hits;
+    this.#show((this.#current + by + length) % length);
   }
 
   /** Marks the hits from this one on, and those of no other. */
   #mark(first) {
-    const marks = this.#hits.slice(first, first + MARKED), start = marks[0]?.[0] ?? 0,
-          end = marks[marks.length - 1]?.[1] ?? 0;
+    const { text, hits } = this.#open, marks = hits.slice(first, first + MARKED);
     for (const { from, to, place } of this.#chunks) {
-      const part = this.#text.slice(from, to), isNear = from < end && to > start;
-      if (!isNear && !place.firstElementChild) continue;
-      const own = isNear ? marks.filter(it => it[0] < to && it[1] > from) : [];
-      place.replaceChildren(...marked(part, own.map(it => [Math.max(it[0], from) - from, Math.min(it[1], to) - from])));
+      const own = marks.filter(it => it[0] < to && it[1] > from);
+      if (own.length === 0 && !place.firstElementChild) continue;
+      const inside = own.map(it => [Math.max(it[0], from) - from, Math.min(it[1], to) - from]);
+      place.replaceChildren(...marked(text.slice(from, to), inside));
     }
     this.#first = first;
   }
@@ -76,10 +74,8 @@ export class Whole {
     if (!mark) return;
     mark.classList.add('current');
     mark.scrollIntoView({ block: 'nearest', inline: 'nearest' });
-    const more = this.#count > this.#hits.length
-      ? ` of the first ${number(this.#hits.length)}, of ${number(this.#count)}`
-      : ` of ${number(this.#count)}`;
-    write('hit', `Hit ${number(current + 1)}${more}`);
+    const { hits: { length }, count } = this.#open, among = count > length ? ` of the first ${number(length)},` : '';
+    write('hit', `Hit ${number(current + 1)}${among} of ${number(count)}`);
   }
 }
 
