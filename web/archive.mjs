@@ -55,11 +55,7 @@ export class Archive {
   /** @type {Map<string, Promise<any>>} */
   #kept = new Map();
 
-  /**
-   * @param {import('./question.mjs').Reader} reader
-   * @param {Uint8Array} root
-   * @returns {Promise<Archive>}
-   */
+  /** @type {(reader: import('./question.mjs').Reader, root: Uint8Array) => Promise<Archive>} */
   static open(reader, root) {
     const folder = `${hex(root)}-${LAYOUT}`;
     return reader.bound(
@@ -136,10 +132,7 @@ export class Archive {
 
   // --- the dictionary ---
 
-  /**
-   * The leaves of the page with this number.
-   * @param {number} number
-   */
+  /** @type {(number: number) => Promise<DictionaryLeaf[]>} the leaves of the page with this number */
   #page(number) {
     return this.#once(`page ${number}`, async () => {
       const { start, end } = this.#pages[number], position = number << this.#pageShift;
@@ -151,11 +144,7 @@ export class Archive {
     });
   }
 
-  /**
-   * @param {Fields} fields
-   * @param {number} position
-   * @param {number} count
-   */
+  /** @type {(fields: Fields, position: number, count: number) => DictionaryLeaf[]} */
   #readPage(fields, position, count) {
     /** @type {DictionaryLeaf[]} */
     const leaves = [];
@@ -212,10 +201,7 @@ export class Archive {
     });
   }
 
-  /**
-   * The bytes of a document's text.
-   * @param {number} doc
-   */
+  /** @type {(doc: number) => Promise<Uint8Array>} the bytes of a document's text */
   async text(doc) {
     const group = await this.#group(this.textsTree, 'texts-tree', doc >> GROUP_SHIFT, DIGEST, digest => digest);
     const { record, from, to } = group[doc % GROUP];
@@ -248,22 +234,13 @@ export class Archive {
   }
 }
 
-/**
- * @param {Fields} fields
- * @param {number} position
- * @param {number} list
- * @returns {DictionaryLeaf}
- */
+/** @type {(fields: Fields, position: number, list: number) => DictionaryLeaf} */
 function dictionaryLeaf(fields, position, list) {
   const from = fields.at, term = fields.take(fields.u8()), documents = fields.u32(), root = fields.take(DIGEST);
   return { position, term, documents, root, list, bytes: fields.bytes.subarray(from, fields.at) };
 }
 
-/**
- * @param {Fields} fields
- * @param {number} position
- * @returns {Leaf}
- */
+/** @type {(fields: Fields, position: number) => Leaf} */
 function termsLeaf(fields, position) {
   const from = fields.at, term = fields.take(fields.u8());
   fields.take(2);

@@ -151,11 +151,7 @@ export class Asking {
     return at === offered && before !== undefined ? { kind: 'grown', before, after } : { kind: 'other' };
   }
 
-  /**
-   * @param {Question} question
-   * @param {AbortSignal} signal
-   * @returns {Promise<Words>}
-   */
+  /** @type {(question: Question, signal: AbortSignal) => Promise<Words>} */
   async words({ query, phrases }, signal) {
     const got = await this.#checks.call('query', [query], { signal });
     if (got.status !== 0) throw new Fault('input', got.line, reasonOf(got));
@@ -172,10 +168,7 @@ export class Asking {
 
   /**
    * An answer of the source, with the check's verdict, whatever it is.
-   * @param {Question} question
-   * @param {Words} words
-   * @param {How} how
-   * @returns {Promise<Answer>}
+   * @type {(question: Question, words: Words, how: How) => Promise<Answer>}
    */
   async answer(question, words, how) {
     const { root, r, way } = question, { terms } = words, start = performance.now();
@@ -223,9 +216,7 @@ export class Asking {
 
   /**
    * Which of an answer's documents have the phrases, by their texts.
-   * @param {Answer} answer
-   * @param {{ signal: AbortSignal, progress: (it: object) => void }} how
-   * @returns {Promise<Found>}
+   * @type {(answer: Answer, how: { signal: AbortSignal, progress: (it: object) => void }) => Promise<Found>}
    */
   async find(answer, { signal, progress }) {
     const { docs } = answer, found = { docs: /** @type {string[]} */ ([]), read: 0, failed: 0 };

@@ -7,33 +7,20 @@ export const DIGEST = 32; // bytes
 /** @param {Uint8Array} bytes */
 export const hex = bytes => Array.from(bytes, byte => byte.toString(16).padStart(2, '0')).join('');
 
-/**
- * The bytes of lower-case hexadecimal digits.
- * @param {string} digits
- */
+/** @type {(digits: string) => Uint8Array} the bytes of lower-case hexadecimal digits */
 export const bytesOfHex = digits => Uint8Array.from(digits.match(/../g) ?? [], pair => parseInt(pair, 16));
 
-/**
- * Compares bytes as unsigned numbers; a prefix comes first.
- * @param {Uint8Array} a
- * @param {Uint8Array} b
- */
+/** @type {(a: Uint8Array, b: Uint8Array) => number} compares bytes as unsigned numbers; a prefix comes first */
 export function compareBytes(a, b) {
   const least = Math.min(a.length, b.length);
   for (let i = 0; i < least; i++) if (a[i] !== b[i]) return a[i] - b[i];
   return a.length - b.length;
 }
 
-/**
- * @param {Uint8Array} a
- * @param {Uint8Array} b
- */
+/** @type {(a: Uint8Array, b: Uint8Array) => boolean} */
 export const same = (a, b) => a.length === b.length && compareBytes(a, b) === 0;
 
-/**
- * One string of all parts.
- * @param {Uint8Array[]} parts
- */
+/** @type {(parts: Uint8Array[]) => Uint8Array} one string of all parts */
 export function joined(parts) {
   const bytes = new Uint8Array(parts.reduce((sum, part) => sum + part.length, 0));
   parts.reduce((at, part) => (bytes.set(part, at), at + part.length), 0);

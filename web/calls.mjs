@@ -6,11 +6,7 @@ import { Fault } from './fault.mjs';
 // worker of a blob of just these bytes.
 const policy = /** @type {any} */ (globalThis).trustedTypes?.createPolicy('worker', { createScriptURL: it => it });
 
-/**
- * A function that makes workers of this file, one after another.
- * @param {Blob} file
- * @returns {() => Worker}
- */
+/** @type {(file: Blob) => () => Worker} a function that makes workers of this file, one after another */
 export function workersOf(file) {
   const place = URL.createObjectURL(new Blob([file], { type: 'text/javascript' }));
   return () => new Worker(policy ? policy.createScriptURL(place) : place, { type: 'module' });
@@ -94,10 +90,7 @@ export class Calls {
     else waiting?.done(got);
   }
 
-  /**
-   * @param {number} id
-   * @param {unknown} why
-   */
+  /** @type {(id: number, why: unknown) => void} */
   #stop(id, why) {
     this.#waiting.get(id)?.failed(why);
     if (!this.#waiting.delete(id)) return;

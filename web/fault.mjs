@@ -29,17 +29,10 @@ export class Fault extends Error {
  */
 export const hostFault = (word, path, what) => new Fault(word, `host: ${path.replace(/.*\//, '')}: ${what}`);
 
-/**
- * What went wrong, if it is no Fault of its own: the check stopped.
- * @param {unknown} fault
- */
+/** @type {(fault: unknown) => Fault} what went wrong, if it is no Fault of its own: the check stopped */
 export const faultOf = fault => fault instanceof Fault ? fault : new Fault('stopped', `${fault}`);
 
-/**
- * Throws what is no Fault of one of these words.
- * @param {unknown} fault
- * @param {string[]} words
- */
+/** @type {(fault: unknown, ...words: string[]) => void} throws what is no Fault of one of these words */
 export function throwOthers(fault, ...words) {
   if (!(fault instanceof Fault && words.includes(fault.word))) throw fault;
 }

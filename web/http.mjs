@@ -68,8 +68,7 @@ class Watch {
 
   /**
    * The bytes of a reply, until enough are there; the rest is left.
-   * @param {Response} reply
-   * @param {number} enough
+   * @type {(reply: Response, enough: number) => Promise<Uint8Array>}
    */
   async take(reply, enough) {
     const parts = [], reader = /** @type {ReadableStream<Uint8Array>} */ (reply.body).getReader();
@@ -87,9 +86,7 @@ class Watch {
 
   /**
    * All bytes of a reply, whose number nobody knows before.
-   * @param {Response} reply
-   * @param {number} most
-   * @param {string} path
+   * @type {(reply: Response, most: number, path: string) => Promise<Uint8Array>}
    */
   async takeAll(reply, most, path) {
     const bytes = await this.take(reply, most + 1);
@@ -98,10 +95,7 @@ class Watch {
   }
 }
 
-/**
- * @param {number} status
- * @param {string} path
- */
+/** @type {(status: number, path: string) => Fault} */
 function faultOfStatus(status, path) {
   const word = status === 429 || status === 503 ? 'busy' : status >= 500 || status === 408 ? 'link' : 'missing';
   return hostFault(word, path, `status ${status}`);
@@ -191,9 +185,7 @@ export class HttpHost {
 
   /**
    * A reply without a range has the whole file. Many may come at the same time, and one is enough.
-   * @param {string} path
-   * @param {Response} reply
-   * @param {Watch} watch
+   * @type {(path: string, reply: Response, watch: Watch) => Promise<Uint8Array>}
    */
   #keepWhole(path, reply, watch) {
     const kept = this.#whole.get(path);

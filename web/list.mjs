@@ -10,10 +10,7 @@ const ENTRY = 6; // bytes
 const ROOM = ENTRIES * ENTRY + DIGEST; // of a block that another one follows
 const CHAIN_TAG = 3, NO_DIGEST = new Uint8Array(DIGEST);
 
-/**
- * Bytes of a list with so many entries.
- * @param {number} entries
- */
+/** @type {(entries: number) => number} bytes of a list with so many entries */
 export const sizeOfList = entries => ENTRY * entries + DIGEST * Math.max(Math.ceil(entries / ENTRIES) - 1, 0);
 
 export class InvertedList {
@@ -37,10 +34,7 @@ export class InvertedList {
     this.impacts = new Uint16Array(documents);
   }
 
-  /**
-   * Reads on, until so many entries are here, or a few more of a block.
-   * @param {number} entries
-   */
+  /** @type {(entries: number) => Promise<void>} reads on, until so many entries are here, or a few more of a block */
   async upTo(entries) {
     if (Math.min(entries, this.length) <= this.known) return;
     const from = this.known / ENTRIES * ROOM, most = sizeOfList(this.length);
@@ -52,8 +46,7 @@ export class InvertedList {
 
   /**
    * Takes the block at this place of the bytes, and returns where the next one is.
-   * @param {Uint8Array} bytes
-   * @param {number} at
+   * @type {(bytes: Uint8Array, at: number) => number}
    */
   #takeBlock(bytes, at) {
     const count = Math.min(ENTRIES, this.length - this.known), end = at + count * ENTRY;

@@ -129,10 +129,7 @@ const NEWER = {
     `${STAY} If the owner published the other one, ask the owner for a growth that leads there.`],
 };
 
-/**
- * @param {import('./roots.mjs').Relation} found
- * @param {string} offered
- */
+/** @type {(found: import('./roots.mjs').Relation, offered: string) => void} */
 function newerShown(found, offered) {
   if (found.kind === 'same') return show('newer', false);
   const isGood = found.kind === 'grown', [heading, said, what] = NEWER[found.kind](found);

@@ -7,10 +7,7 @@
  */
 export const isCatalog = ({ root, shards }) => shards.length !== 1 || shards[0] !== root;
 
-/**
- * @param {number | bigint | undefined} shard
- * @param {number | bigint} doc
- */
+/** @type {(shard: number | bigint | undefined, doc: number | bigint) => string} */
 export const nameOf = (shard, doc) => shard === undefined ? `${doc}` : `${shard}-${doc}`;
 
 /** @param {string} text */
@@ -24,13 +21,9 @@ export function placeOf(name) {
 
 /**
  * Whether there can be a document of this name under these roots.
- * @param {string} name
- * @param {{ root: string, shards: string[] }} of
+ * @type {(name: string, of: { root: string, shards: string[] }) => boolean}
  */
 export const fits = (name, of) => name.includes('-') === isCatalog(of) && placeOf(name).shard < of.shards.length;
 
-/**
- * As a person reads it.
- * @param {string} name
- */
+/** @type {(name: string) => string} as a person reads it */
 export const documentOf = name => name.replace(/^(\d+)-(\d+)$/, '$2 of archive $1').replace(/^/, 'document ');

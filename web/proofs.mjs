@@ -55,12 +55,7 @@ class Writer {
     digests.forEach(digest => this.put(digest));
   }
 
-  /**
-   * How every file begins.
-   * @param {string} magic
-   * @param {number[]} fields
-   * @param {Archive} archive
-   */
+  /** @type {(magic: string, fields: number[], archive: Archive) => void} how every file begins */
   begin(magic, fields, { header }) {
     this.put(Uint8Array.from([...magic].map(sign => sign.charCodeAt(0))));
     fields.forEach(field => this.u8(field));
@@ -140,9 +135,7 @@ const isPresent = own => own.length === 1;
 
 /**
  * The honest TNRA proofs of the best r documents of all these archives. `terms` are distinct, in byte order.
- * @param {Archive[]} archives
- * @param {Term[]} terms
- * @param {number} r
+ * @type {(archives: Archive[], terms: Term[], r: number) => Promise<Uint8Array[]>}
  */
 export async function ranked(archives, terms, r) {
   const found = await ofShards(archives, archive => find(archive, terms));
@@ -157,23 +150,14 @@ export async function ranked(archives, terms, r) {
   });
 }
 
-/**
- * @param {Archive} archive
- * @param {Term[]} terms
- * @param {DictionaryLeaf[][]} found
- * @returns {import('./walk.mjs').Lane[]}
- */
+/** @type {(archive: Archive, terms: Term[], found: DictionaryLeaf[][]) => import('./walk.mjs').Lane[]} */
 const lanesOf = (archive, terms, found) => terms.flatMap(({ weight }, i) => {
   const [leaf] = found[i];
   if (!isPresent(found[i])) return [];
   return [{ list: new InvertedList(archive, leaf), coefficient: weight * idf(archive.documents, leaf.documents) }];
 });
 
-/**
- * The file of a document's text.
- * @param {Archive} archive
- * @param {number} doc
- */
+/** @type {(archive: Archive, doc: number) => Promise<Uint8Array>} the file of a document's text */
 export async function text(archive, doc) {
   if (!(doc < archive.documents)) throw new Fault('missing', `input: document ${doc}`);
   const bytes = await archive.text(doc), writer = new Writer();
@@ -187,8 +171,7 @@ export async function text(archive, doc) {
 /**
  * Of the lists of all terms the shortest one is shown whole, of the others an entry. If a term is absent, one entry of
  * each.
- * @param {Term[]} terms
- * @param {InvertedList[]} lists
+ * @type {(terms: Term[], lists: InvertedList[]) => number[]}
  */
 function cutOfAll(terms, lists) {
   if (lists.length < terms.length) return lists.map(() => 1);
@@ -199,9 +182,7 @@ function cutOfAll(terms, lists) {
 /**
  * From each archive the honest proof of all its documents that have every term, if the terms of at most `most`
  * documents have to be read for them.
- * @param {Archive[]} archives
- * @param {Term[]} terms
- * @param {number} most
+ * @type {(archives: Archive[], terms: Term[], most: number) => Promise<Uint8Array[]>}
  */
 export async function both(archives, terms, most) {
   const parts = await ofShards(archives, async archive => {

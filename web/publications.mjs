@@ -39,8 +39,7 @@ async function read(host, name, question) {
 
 /**
  * The newest publication and those before it, as long as there are any.
- * @param {Host} host
- * @param {Question} question
+ * @type {(host: Host, question: Question) => AsyncGenerator<Publication, void, unknown>}
  */
 async function* backward(host, question) {
   let one = await read(host, LATEST, question);
@@ -50,10 +49,7 @@ async function* backward(host, question) {
   }
 }
 
-/**
- * The root of the catalog of archives with these roots.
- * @param {string[]} roots
- */
+/** @type {(roots: string[]) => string} the root of the catalog of archives with these roots */
 function catalogOf(roots) {
   const front = Uint8Array.of(0x41, 0x54, 0x53, 0x43, 1, 0, 0, 0, 0); // ATSC
   new DataView(front.buffer).setUint32(5, roots.length);

@@ -7,8 +7,7 @@ const SIGNS = [[/\*/, '*'], [/(^|\s)-(?=\S)/, '-'], [/(^|\s)\+(?=\S)/, '+'], [/(
 
 /**
  * `sent` is the query that is asked, `phrases` what stands in quotes, and `passed` the signs that mean nothing.
- * @param {string} typed
- * @returns {{ sent: string, phrases: string[], passed: string[] }}
+ * @type {(typed: string) => { sent: string, phrases: string[], passed: string[] }}
  */
 export function readQuery(typed) {
   const phrases = [...typed.matchAll(QUOTED)].map(it => it[1]), bare = typed.replace(QUOTED, ' ');
@@ -20,10 +19,7 @@ export function readQuery(typed) {
   return { sent, phrases, passed: [...new Set([...passed, ...operators])] };
 }
 
-/**
- * The name of the first sign that no command can carry, or undefined.
- * @param {string} text
- */
+/** @type {(text: string) => string | undefined} the name of the first sign that no command can carry, or undefined */
 export function badSign(text) {
   const found = /[\0-\x1f\x7f]|[\ud800-\udbff](?![\udc00-\udfff])|(?<![\ud800-\udbff])[\udc00-\udfff]/.exec(text);
   return found ? `U+${found[0].charCodeAt(0).toString(16).toUpperCase().padStart(4, '0')}` : undefined;

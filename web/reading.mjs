@@ -32,19 +32,12 @@ export class Reading {
     this.#query = query;
   }
 
-  /**
-   * The words of a text in their order.
-   * @param {string} text
-   */
+  /** @type {(text: string) => string[]} the words of a text in their order */
   sequence(text) {
     return this.#wordsOf(text).map(({ term }) => term);
   }
 
-  /**
-   * Whether each of these sequences stands in the text.
-   * @param {string} text
-   * @param {string[][]} sequences
-   */
+  /** @type {(text: string, sequences: string[][]) => boolean} whether each of these sequences stands in the text */
   holds(text, sequences) {
     return new Set(this.#hits(text, sequences).map(({ which }) => which)).size === sequences.length;
   }
@@ -79,11 +72,7 @@ export class Reading {
     return pieces.flatMap(({ 0: piece, index = 0 }) => moved(this.#inPiece(piece), index));
   }
 
-  /**
-   * @param {string} text
-   * @param {string[][]} sequences
-   * @returns {Hit[]}
-   */
+  /** @type {(text: string, sequences: string[][]) => Hit[]} */
   #hits(text, sequences) {
     /** @type {Hit[]} */
     const hits = [];
@@ -95,10 +84,7 @@ export class Reading {
     return hits;
   }
 
-  /**
-   * The words of a text without spaces.
-   * @param {string} piece
-   */
+  /** @type {(piece: string) => Word[]} the words of a text without spaces */
   #inPiece(piece) {
     let words = this.#kept.get(piece);
     if (words) return words;
@@ -111,9 +97,7 @@ export class Reading {
 
   /**
    * Cuts the shortest front off that has one word and leaves the others: the module says which words each part has.
-   * @param {string} piece
-   * @param {Bag} bag
-   * @returns {Word[]}
+   * @type {(piece: string, bag: Bag) => Word[]}
    */
   #split(piece, bag) {
     if (bag.count === 0) return [];
@@ -125,8 +109,7 @@ export class Reading {
 
   /**
    * Where a front with one word ends, that word, and what is after it.
-   * @param {string} text
-   * @param {Bag} bag
+   * @type {(text: string, bag: Bag) => { at: number, term: string, back: Bag }}
    */
   #firstWord(text, bag) {
     for (let at = 1; at < text.length; at++) {
@@ -140,8 +123,7 @@ export class Reading {
   /**
    * Cuts a long piece near its middle, or has no word in it if that is nowhere possible: it is one word that is too
    * long.
-   * @param {string} piece
-   * @returns {Word[]}
+   * @type {(piece: string) => Word[]}
    */
   #halved(piece) {
     const middle = piece.length >> 1;
@@ -153,11 +135,7 @@ export class Reading {
     return bag ? this.#split(piece, bag) : [];
   }
 
-  /**
-   * Whether a word ends here, by what is near.
-   * @param {string} text
-   * @param {number} at
-   */
+  /** @type {(text: string, at: number) => boolean} whether a word ends here, by what is near */
   #isCut(text, at) {
     if (!mayCut(text, at) || JOINING.test(text.slice(at - 1, at + 2))) return false;
     const front = text.slice(Math.max(at - NEAR, 0), at), back = text.slice(at, at + NEAR);
@@ -167,8 +145,7 @@ export class Reading {
 
   /**
    * The words of a short text, or undefined if it has more than a query may have.
-   * @param {string} text
-   * @returns {Bag | undefined}
+   * @type {(text: string) => Bag | undefined}
    */
   #bag(text) {
     const { status, reason, terms } = this.#query(text);
@@ -181,41 +158,30 @@ export class Reading {
 
 /**
  * The same words, so many units later.
- * @param {Word[]} words
- * @param {number} by
+ * @type {(words: Word[], by: number) => { term: string, from: number, to: number }[]}
  */
 const moved = (words, by) => words.map(({ term, from, to }) => ({ term, from: from + by, to: to + by }));
 
 /**
  * Whether all are there, and the first bag has just what the others have.
- * @param {Bag | undefined} all
- * @param {Bag | undefined} front
- * @param {Bag | undefined} back
+ * @type {(all: Bag | undefined, front: Bag | undefined, back: Bag | undefined) => boolean}
  */
 const isSum = (all, front, back) => Boolean(all && front && back && all.count === front.count + back.count
   && [...all.words].every(([word, count]) => count === (front.words.get(word) ?? 0) + (back.words.get(word) ?? 0)));
 
-/**
- * Never inside a character, nor between two plain letters or digits.
- * @param {string} text
- * @param {number} at
- */
+/** @type {(text: string, at: number) => boolean} never inside a character, nor between two plain letters or digits */
 const mayCut = (text, at) => !/[\udc00-\udfff]/.test(text[at]) && !PLAIN.test(text.slice(at - 1, at + 1));
 
 /**
  * The word of a piece, without the signs about it.
- * @param {string} term
- * @param {string} piece
+ * @type {(term: string, piece: string) => { term: string, from: number, to: number }}
  */
 function placed(term, piece) {
   const from = Math.max(piece.search(/[\p{L}\p{N}\p{M}_]/u), 0);
   return { term, from, to: from + piece.replace(EDGES, '').length };
 }
 
-/**
- * Without those that begin inside an earlier one.
- * @param {Hit[]} hits
- */
+/** @type {(hits: Hit[]) => Hit[]} without those that begin inside an earlier one */
 function apart(hits) {
   let end = 0;
   return hits.filter(({ from, to }) => {
@@ -225,10 +191,7 @@ function apart(hits) {
   });
 }
 
-/**
- * The hits of the part with most different sequences, and of these with most hits.
- * @param {Hit[]} hits
- */
+/** @type {(hits: Hit[]) => Hit[]} the hits of the part with most different sequences, and of these with most hits */
 function bestHits(hits) {
   /** @type {Map<number, number>} */
   const inside = new Map();
@@ -270,8 +233,7 @@ function edge(text, at) {
 
 /**
  * The first line with a sign in it, and where the text goes on after it if that is its title.
- * @param {string} text
- * @param {boolean} titles
+ * @type {(text: string, titles: boolean) => { title: string, start: number }}
  */
 function titled(text, titles) {
   const from = Math.max(text.search(/\S/), 0), found = text.indexOf('\n', from), end = found < 0 ? text.length : found;

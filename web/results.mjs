@@ -36,9 +36,7 @@ export class Results {
 
   /**
    * Shows these documents of an answer, and fetches their texts.
-   * @param {import('./asking.mjs').Asking} asking
-   * @param {Answer} answer
-   * @param {string[]} docs
+   * @type {(asking: import('./asking.mjs').Asking, answer: Answer, docs: string[]) => void}
    */
   show(asking, answer, docs) {
     this.clear();
@@ -71,11 +69,7 @@ export class Results {
     return item;
   }
 
-  /**
-   * @param {Answer} answer
-   * @param {string} doc
-   * @param {HTMLElement} item
-   */
+  /** @type {(answer: Answer, doc: string, item: HTMLElement) => Promise<void>} */
   async #fill(answer, doc, item) {
     const { signal } = this.#end, asking = /** @type {import('./asking.mjs').Asking} */ (this.#asking);
     try {
@@ -90,12 +84,7 @@ export class Results {
     item.removeAttribute('aria-busy');
   }
 
-  /**
-   * @param {Answer} answer
-   * @param {string} doc
-   * @param {HTMLElement} item
-   * @param {import('./fault.mjs').Fault} why
-   */
+  /** @type {(answer: Answer, doc: string, item: HTMLElement, why: import('./fault.mjs').Fault) => void} */
   #missing(answer, doc, item, why) {
     const again = element('button', 'Ask again for this text', { type: 'button', className: 'small' });
     part(item, '.text').textContent = '';

@@ -21,8 +21,7 @@ export const leftOn = root => kept().before.find(it => it.root === root)?.day;
 
 /**
  * Keeps the root. If it grew from the kept one, that is remembered. Returns whether the browser could.
- * @param {string} root
- * @param {boolean} grown
+ * @type {(root: string, grown: boolean) => boolean}
  */
 export function keep(root, grown) {
   const own = kept(), day = dayOf(new Date());

@@ -85,8 +85,7 @@ const proofNames = of => of.way === 'all' && isCatalog(of) ? of.shards.map((_, i
 
 /**
  * The file to save. The documents of the answer are there to be read; the check finds them again.
- * @param {import('./asking.mjs').Answer} answer
- * @param {Date} moment
+ * @type {(answer: import('./asking.mjs').Answer, moment: Date) => Blob}
  */
 export function saved(answer, moment) {
   const { way, root, shards, r, query, titles, proofs, docs: documents, texts } = answer;
@@ -153,9 +152,7 @@ export function linkOf({ root, way, typed }, { host, doc }) {
 
 /**
  * A line to cite: which document it is, and how it was found.
- * @param {import('./asking.mjs').Answer} answer
- * @param {string} doc
- * @param {string} day
+ * @type {(answer: import('./asking.mjs').Answer, doc: string, day: string) => string}
  */
 export function citeOf(answer, doc, day) {
   const { way, root, query, r, docs } = answer, what = isCatalog(answer) ? 'catalog' : 'archive';

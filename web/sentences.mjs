@@ -88,11 +88,7 @@ const FAULTS = {
   blocked: 'Take the page that the archive’s owner made for it.',
 };
 
-/**
- * A sentence for a fault.
- * @param {{ word: string, said?: string }} fault
- * @returns {string}
- */
+/** @type {(fault: { word: string, said?: string }) => string} a sentence for a fault */
 export const faultWords = ({ word, said }) => said || (FAULTS[word] ?? FAULTS.link);
 
 /** @param {string} text */
@@ -178,8 +174,5 @@ export const dayOf = moment => moment.toISOString().slice(0, 10);
 /** A text that may run from right to left, inside a sentence. */
 export const quoted = text => `“\u2068${text}\u2069”`;
 
-/**
- * Words in a list, each quoted.
- * @param {string[]} words
- */
+/** @type {(words: string[]) => string} words in a list, each quoted */
 export const listed = words => words.map(quoted).join(', ');

@@ -36,11 +36,7 @@ function compress() {
   state[4] += e; state[5] += f; state[6] += g; state[7] += h;
 }
 
-/**
- * The digest of these words, from `at`, as bytes.
- * @param {Int32Array} words
- * @param {number} at
- */
+/** @type {(words: Int32Array, at: number) => Uint8Array} the digest of these words, from `at`, as bytes */
 function bytesOf(words, at) {
   const digest = new Uint8Array(DIGEST);
   for (let i = 0; i < DIGEST; i++) digest[i] = words[at + (i >> 2)] >>> 24 - 8 * (i & 3);
@@ -80,9 +76,7 @@ const row = new Int32Array(ENTRIES * WORDS);
 
 /**
  * Puts the digest of the leaf of 6 bytes there into place i of the row.
- * @param {Uint8Array} bytes
- * @param {number} at
- * @param {number} i
+ * @type {(bytes: Uint8Array, at: number, i: number) => void}
  */
 function entryDigest(bytes, at, i) {
   w.fill(0, 2, 15);
@@ -94,10 +88,7 @@ function entryDigest(bytes, at, i) {
   row.set(state, i * WORDS);
 }
 
-/**
- * Puts the digest of the node over places 2 i and 2 i + 1 of the row into place i.
- * @param {number} i
- */
+/** @type {(i: number) => void} puts the digest of the node over places 2 i and 2 i + 1 of the row into place i */
 function nodeInRow(i) {
   const at = 2 * i * WORDS, last = row[at + 15];
   w[0] = 1 << 24 | row[at] >>> 8;
@@ -113,9 +104,7 @@ function nodeInRow(i) {
 
 /**
  * The root of the tree of these entries of 6 bytes each, at most 64.
- * @param {Uint8Array} bytes
- * @param {number} at
- * @param {number} count
+ * @type {(bytes: Uint8Array, at: number, count: number) => Uint8Array}
  */
 export function rootOfEntries(bytes, at, count) {
   for (let i = 0; i < count; i++) entryDigest(bytes, at + 6 * i, i);

@@ -10,8 +10,7 @@ const u32 = n => Uint8Array.of(n >>> 24, n >>> 16, n >>> 8, n);
 
 /**
  * The file of a catalog's proof: the roots of its archives, and a proof from each.
- * @param {string[]} roots
- * @param {Uint8Array[]} proofs
+ * @type {(roots: string[], proofs: Uint8Array[]) => Uint8Array}
  */
 export const catalogFile = (roots, proofs) => joined([
   FRONT, u32(roots.length), ...roots.map(bytesOfHex), ...proofs.flatMap(proof => [u32(proof.length), proof])

@@ -34,10 +34,7 @@ export class Source {
   }
 }
 
-/**
- * A sentence of this source's own for some faults.
- * @param {Fault} fault
- */
+/** @type {(fault: Fault) => string} a sentence of this source's own for some faults */
 function saidOf({ word, line }) {
   const many = /^input: ([0-9]+) documents to look into, of at most ([0-9]+)$/.exec(line);
   if (many) {

@@ -7,16 +7,10 @@ const LEAF = 0, NODE = 1;
 
 /** @param {Uint8Array} leaf */
 export const leafDigest = leaf => sha256(LEAF, leaf);
-/**
- * @param {Uint8Array} left
- * @param {Uint8Array} right
- */
+/** @type {(left: Uint8Array, right: Uint8Array) => Uint8Array} */
 const nodeDigest = (left, right) => sha256(NODE, left, right);
 
-/**
- * The largest power of two below n, for n from 2 to 2^31.
- * @param {number} n
- */
+/** @type {(n: number) => number} the largest power of two below n, for n from 2 to 2^31 */
 const splitOf = n => 2 ** (31 - Math.clz32(n - 1));
 
 /**
@@ -53,8 +47,7 @@ export function besides(n, start, count) {
 
 /**
  * The largest parts without a shown leaf, from left to right. `shown` rises.
- * @param {number} n
- * @param {number[]} shown
+ * @type {(n: number, shown: number[]) => { start: number, count: number }[]}
  */
 function hidden(n, shown) {
   /** @type {{ start: number, count: number }[]} */
@@ -75,10 +68,7 @@ function hidden(n, shown) {
 }
 
 // Starts and counts are below 2^25, so a key is a whole number below 2^53.
-/**
- * @param {number} start
- * @param {number} count
- */
+/** @type {(start: number, count: number) => number} */
 const keyOf = (start, count) => start * 2 ** 25 + count;
 
 /** A tree of n leaves of which some aligned parts are known, with what is beside the ways to them. */
@@ -99,9 +89,7 @@ export class KnownTree {
   /**
    * Adds a part by the digests of its leaves and its audit path. False if they do not belong to the root: then nothing
    * is added.
-   * @param {number} start
-   * @param {Uint8Array[]} leaves
-   * @param {Uint8Array[]} path
+   * @type {(start: number, leaves: Uint8Array[], path: Uint8Array[]) => boolean}
    */
   add(start, leaves, path) {
     const beside = besides(this.#n, start, leaves.length);
@@ -115,19 +103,12 @@ export class KnownTree {
     return true;
   }
 
-  /**
-   * @param {number} start
-   * @param {Uint8Array[]} leaves
-   */
+  /** @type {(start: number, leaves: Uint8Array[]) => void} */
   know(start, leaves) {
     leaves.forEach((digest, i) => this.#known.set(keyOf(start + i, 1), digest));
   }
 
-  /**
-   * @param {number} start
-   * @param {number} count
-   * @returns {Uint8Array}
-   */
+  /** @type {(start: number, count: number) => Uint8Array} */
   #digest(start, count) {
     const key = keyOf(start, count);
     let found = this.#known.get(key);

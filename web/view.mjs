@@ -6,16 +6,10 @@
  */
 export const $ = id => document.getElementById(id);
 
-/**
- * @param {string} id
- * @param {boolean} isShown
- */
+/** @type {(id: string, isShown: boolean) => void} */
 export const show = (id, isShown) => { $(id).hidden = !isShown; };
 
-/**
- * @param {string} id
- * @param {string} text
- */
+/** @type {(id: string, text: string) => void} */
 export const write = (id, text) => { $(id).textContent = text; };
 
 /**

@@ -26,16 +26,13 @@ export function idf(documents, having) {
 
 /**
  * What a list may still add to a score after its first `shown` entries.
- * @param {Lane} lane
- * @param {number} shown
+ * @type {(lane: Lane, shown: number) => number}
  */
 const restOf = ({ list, coefficient }, shown) => shown === list.length ? 0 : coefficient * list.impacts[shown - 1];
 
 /**
  * The r-th largest of the values of these documents, or the least if there are fewer: without sorting all.
- * @param {number} r
- * @param {number[]} docs
- * @param {Uint32Array} values
+ * @type {(r: number, docs: number[], values: Uint32Array) => number}
  */
 function largest(r, docs, values) {
   /** @type {number[]} */
@@ -66,10 +63,7 @@ class Bounds {
     this.met = this.#room.subarray(0, 0);
   }
 
-  /**
-   * @param {Lane[]} lanes
-   * @param {number[]} cut
-   */
+  /** @type {(lanes: Lane[], cut: number[]) => void} */
   at(lanes, cut) {
     const { met } = this, low = this.#low, named = this.#named, room = this.#room;
     for (let i = 0; i < met.length; i++) low[met[i]] = named[met[i]] = 0;
@@ -104,8 +98,7 @@ class Bounds {
 
   /**
    * The first r of these documents by low, then high, both falling, then by number.
-   * @param {number} r
-   * @param {number[]} docs
+   * @type {(r: number, docs: number[]) => number[]}
    */
   #best(r, docs) {
     const low = this.#low, least = largest(r, docs, low); // so few of them are sorted by all three
@@ -113,10 +106,7 @@ class Bounds {
     return docs.filter(doc => low[doc] >= least).sort(byAll).slice(0, r);
   }
 
-  /**
-   * The most that a document may score which is none of these.
-   * @param {number[]} best
-   */
+  /** @type {(best: number[]) => number} the most that a document may score which is none of these */
   #mostOfOthers(best) {
     const { met } = this, low = this.#low, threshold = this.#threshold, inside = new Set(best);
     let most = threshold;
@@ -127,10 +117,7 @@ class Bounds {
     return most;
   }
 
-  /**
-   * @param {number} r
-   * @returns {Stand}
-   */
+  /** @type {(r: number) => Stand} */
   stand(r) {
     const best = this.#best(r, this.#above());
     return {
@@ -205,20 +192,13 @@ class Walk {
     return cut;
   }
 
-  /**
-   * @param {number} turns
-   * @param {number} r
-   */
+  /** @type {(turns: number, r: number) => Stand} */
   standAfter(turns, r) {
     this.#bounds.at(this.#lanes, this.#cutAfter(turns));
     return this.#bounds.stand(r);
   }
 
-  /**
-   * @param {number} turns
-   * @param {number} r
-   * @returns {Settled}
-   */
+  /** @type {(turns: number, r: number) => Settled} */
   settledAfter(turns, r) {
     const rows = this.standAfter(turns, r).best.map(({ doc }) => doc);
     return { cut: this.#cutAfter(turns), rows, met: [...this.#bounds.met.slice().sort()] };
@@ -268,19 +248,12 @@ async function readAll(walks, r) {
   }
 }
 
-/**
- * The same stand with so many of its best.
- * @param {Stand} stand
- * @param {number} rows
- * @returns {Stand}
- */
+/** @type {(stand: Stand, rows: number) => Stand} the same stand with so many of its best */
 const cutTo = (stand, rows) => ({ best: stand.best.slice(0, rows), other: restOfStand(stand, rows) });
 
 /**
  * For each shard the cut, the rows and the met documents by which the best r of all are settled.
- * @param {Shard[]} shards
- * @param {number} r
- * @returns {Promise<Settled[]>}
+ * @type {(shards: Shard[], r: number) => Promise<Settled[]>}
  */
 export async function walk(shards, r) {
   const bounds = new Bounds(Math.max(...shards.map(({ documents }) => documents)));

@@ -79,11 +79,7 @@ export class Whole {
   }
 }
 
-/**
- * Cut between lines, or between words in a line that is too long.
- * @param {string} text
- * @returns {Chunk[]}
- */
+/** @type {(text: string) => Chunk[]} cut between lines, or between words in a line that is too long */
 function chunksOf(text) {
   const chunks = [];
   for (let from = 0, to; from < text.length; from = to) {
