@@ -1,13 +1,9 @@
-#!/usr/bin/env python3
 """Joins a module and what it imports into one file without imports, which a page can pin and start.
 
-bundle.py NAME FILE    writes the file of NAME.mjs; as a module, `bundle(NAME)` returns its bytes
-
-So no two of them may have a name in common outside of functions and classes: such a file is no module. Comments are
+No two of them may have a name in common outside of functions and classes: such a file is no module. Comments are
 left out, functions and classes that nothing else names, and spaces that no two words need. """
 
 import re
-import sys
 from pathlib import Path
 
 HERE = Path(__file__).resolve().parent
@@ -55,9 +51,3 @@ def in_order(name: str, found: "dict[str, str]") -> "dict[str, str]":
 
 def bundle(name: str) -> bytes:
     return squeezed(used("\n".join(in_order(name, {}).values()))).encode()
-
-
-if __name__ == "__main__":
-    if len(sys.argv) != 3:
-        sys.exit(__doc__)
-    Path(sys.argv[2]).write_bytes(bundle(sys.argv[1]))

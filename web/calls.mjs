@@ -31,7 +31,7 @@ export async function each(some, atOnce, work) {
  *   Waiting
  */
 
-/** A worker and the calls that wait for it. The worker's side is in answering.mjs. */
+/** A worker and the calls that wait for it. The worker's side is in worker.mjs. */
 export class Calls {
   #make; #start; #stops; #last = 0;
   /** @type {Worker | undefined} */

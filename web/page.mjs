@@ -580,11 +580,11 @@ async function start() {
   rootShown();
   const ready = readLink();
   $('root-place').open = !isRoot(state.root);
-  const [module, checking, assembling] = await Promise.all(['page.wasm', 'checking.mjs', 'assembling.mjs'].map(pinned));
+  const [module, worker] = await Promise.all(['page.wasm', 'worker.mjs'].map(pinned)), make = workersOf(worker);
   const compiled = await WebAssembly.compile(await module.arrayBuffer()).catch(() => { throw new Error(NO_BROWSER); });
-  const checks = new Calls(workersOf(checking), { module: compiled }, false);
+  const checks = new Calls(make, { module: compiled }, false);
   await checks.call('version', []).catch(() => { throw new Error(NO_BROWSER); });
-  state.asking = new Asking(checks, sourceOf(workersOf(assembling)));
+  state.asking = new Asking(checks, sourceOf(make));
   return ready;
 }
 

@@ -21,7 +21,7 @@ from pathlib import Path
 import bundle
 
 HERE = Path(__file__).resolve().parent
-BUNDLES = ("page", "checking", "assembling")
+BUNDLES = ("page", "worker")
 
 
 def pin(data: bytes) -> str:

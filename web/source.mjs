@@ -11,7 +11,7 @@ export class Source {
   #calls;
 
   /**
-   * @param {() => Worker} make the worker of assembling.mjs
+   * @param {() => Worker} make the worker that assembles
    * @param {string[]} bases addresses of hosts, which are tried in turn
    */
   constructor(make, bases) {

@@ -11,7 +11,7 @@ const asked = (source, { call, words: { terms, ...words } }, how) =>
 
 /** Does something with a source of hosts, with spaces between, and how long it took. */
 async function timed(place, act) {
-  const worker = new Worker('/assembling.mjs', { type: 'module' }), source = new Source(() => worker, place.split(' '));
+  const worker = new Worker('/worker.mjs', { type: 'module' }), source = new Source(() => worker, place.split(' '));
   const start = performance.now(), got = await act(source), ms = Math.round(performance.now() - start);
   await new Promise(done => setTimeout(done, 200)); // what is kept is stored within a moment
   worker.terminate();

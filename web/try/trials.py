@@ -619,7 +619,7 @@ def names_of(browser: browsers.Chromium, *roles: str) -> "list[str]":
 
 def try_pins(me: Person) -> None:
     """Each file that the page loads, changed by one bit: the page must not get ready."""
-    for name in ("page.css", "page.mjs", "page.wasm", "checking.mjs", "assembling.mjs"):
+    for name in ("page.css", "page.mjs", "page.wasm", "worker.mjs"):
 
         def changed(request: hosts.Request, reply: hosts.Reply, name: str = name) -> hosts.Reply:
             return reply._replace(body=flipped(reply.body, len(reply.body) - 2)) if request.name == name else reply
