@@ -6,7 +6,6 @@ import json
 import os
 import shutil
 import signal
-import socket
 import subprocess
 import sys
 import tempfile
@@ -15,7 +14,7 @@ import urllib.request
 from pathlib import Path
 from typing import Any, Callable, Iterator, Optional, Union
 
-from nginx import free_port
+from nginx import connected, free_port
 
 QUIET = {"stdin": subprocess.DEVNULL, "stdout": subprocess.DEVNULL, "stderr": subprocess.DEVNULL}
 PATIENCE = 240  # seconds for the longest step, on a machine with much other work
@@ -160,6 +159,7 @@ class Firefox(Browser):
         words = [program, "--headless", "--marionette", "--no-remote", "--profile", self.folder, "about:blank"]
         self.process = subprocess.Popen(words, env={**os.environ, "HOME": self.folder}, **QUIET)
         self.link = connected(port, self.process)
+        self.link.settimeout(PATIENCE)
         self.number = 0
         self.message()
         self.send("WebDriver:NewSession")
@@ -249,18 +249,6 @@ class WebKit(Browser):
     @classmethod
     def program(cls) -> Optional[str]:
         return super().program() if shutil.which("xvfb-run") and glob.glob(cls.windows) else None
-
-
-def connected(port: int, process: "subprocess.Popen[bytes]") -> socket.socket:
-    end = time.monotonic() + 60
-    while process.poll() is None and time.monotonic() < end:
-        try:
-            link = socket.create_connection(("127.0.0.1", port), 5)
-            link.settimeout(PATIENCE)
-            return link
-        except OSError:
-            time.sleep(0.2)
-    raise OSError("the browser does not answer")
 
 
 def wait(holds: Callable[[], object], seconds: float = 60) -> None:

@@ -8,6 +8,7 @@ import socket
 import subprocess
 import time
 from pathlib import Path
+from typing import Any
 
 HOME = Path(__file__).resolve().parent.parent.parent
 
@@ -20,6 +21,17 @@ def free_port() -> int:
     with socket.socket() as it:
         it.bind(("127.0.0.1", 0))
         return it.getsockname()[1]
+
+
+def connected(port: int, process: "subprocess.Popen[Any]") -> socket.socket:
+    """A link to a process that is to listen there."""
+    end = time.monotonic() + 60
+    while process.poll() is None and time.monotonic() < end:
+        try:
+            return socket.create_connection(("127.0.0.1", port), 5)
+        except OSError:
+            time.sleep(0.1)
+    raise OSError(f"{process.args[0]} does not listen at port {port}")
 
 
 def configuration(folder: Path, port: int) -> str:
@@ -46,17 +58,8 @@ class Nginx:
         work.mkdir(exist_ok=True)
         (work / "nginx.conf").write_text(configuration(folder, port), encoding="utf-8")
         words = [str(program()), "-p", f"{work}/", "-c", str(work / "nginx.conf"), "-e", str(work / "error.log")]
-        self.process = subprocess.Popen(words, stderr=subprocess.PIPE, text=True)
-        self.wait(port)
-
-    def wait(self, port: int) -> None:
-        end = time.monotonic() + 20
-        while time.monotonic() < end and self.process.poll() is None:
-            try:
-                return socket.create_connection(("127.0.0.1", port), 1).close()
-            except OSError:
-                time.sleep(0.05)
-        raise OSError(f"nginx does not listen: {self.process.stderr.read() if self.process.poll() is not None else ''}")
+        self.process = subprocess.Popen(words)
+        connected(port, self.process).close()
 
     def requests(self) -> "list[str]":
         """A line for each request: method, path, status, bytes."""
