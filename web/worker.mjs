@@ -1,6 +1,6 @@
-// The worker of the page, of which there are two, so that the page stays quick. One checks, and reads texts by the words
-// of the proved module; the other one assembles answers from the folders of archives. The first message is { start };
-// each other one is { id, call, words } or { stop: id }. The page's side is in calls.mjs. Not proved.
+// The worker of the page, of which there are two, so that the page stays quick. One checks, and reads texts by the
+// words of the proved module; the other one assembles answers from the folders of archives. The first message is
+// { start }; each other one is { id, call, words } or { stop: id }. The page's side is in calls.mjs. Not proved.
 
 import { Assembler } from './assembler.mjs';
 import { StoredCache } from './cache.mjs';

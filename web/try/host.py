@@ -31,10 +31,10 @@ class Request(NamedTuple):
         return self.path.rsplit("/", 1)[-1]
 
 
-Act = Callable[[Request, Reply], Optional[Reply]]
+Act = Callable[[Request, Reply], Reply]
 
 
-def honest(_: Request, reply: Reply) -> Optional[Reply]:
+def honest(_: Request, reply: Reply) -> Reply:
     return reply
 
 
@@ -43,11 +43,7 @@ class Handler(server.Handler):
 
     def do_GET(self) -> None:
         request, reply = self.asked()
-        self.server.requests.append(request)
         changed = self.server.act(request, reply)
-        if changed is None:
-            self.close_connection = True
-            return
         self.send_response(changed.status)
         self.send_header("Content-Type", changed.kind)
         self.send_header("Content-Length", str(changed.length or len(changed.body)))
@@ -78,7 +74,6 @@ class Host(server.Server):
         super().__init__(folders)
         self.RequestHandlerClass = Handler
         self.act: Act = honest
-        self.requests: "list[Request]" = []
         self.is_kept = False  # whether ranges have what browsers need to keep them
         threading.Thread(target=self.serve_forever, daemon=True).start()
 
@@ -96,13 +91,13 @@ def about(names: "tuple[str, ...]", lie: Act) -> Act:
     return lambda request, reply: lie(request, reply) if request.name in names and reply.status == 206 else reply
 
 
+def flipped(data: bytes, at: int) -> bytes:
+    """The same with one bit changed."""
+    return data[:at] + bytes([data[at] ^ 1]) + data[at + 1 :]
+
+
 def one_bit(_: Request, reply: Reply) -> Reply:
-    at = len(reply.body) // 2
-    return (
-        reply._replace(body=reply.body[:at] + bytes([reply.body[at] ^ 1]) + reply.body[at + 1 :])
-        if reply.body
-        else reply
-    )
+    return reply._replace(body=flipped(reply.body, len(reply.body) // 2)) if reply.body else reply
 
 
 def cut(_: Request, reply: Reply) -> Reply:

@@ -134,11 +134,6 @@ class Person:
         return self.do("file", name="it.zip", base64=base64.b64encode(data).decode(), drop=drop)
 
 
-def flipped(data: bytes, at: int) -> bytes:
-    """The same with one bit changed."""
-    return data[:at] + bytes([data[at] ^ 1]) + data[at + 1 :]
-
-
 # ---- answers
 
 
@@ -539,10 +534,10 @@ def try_changed(me: Person, data: bytes) -> None:
         words = data.index(it.read(own))
     me.open()
     for at in (start, start + 20, start + size // 2, start + size - 1):
-        got = me.file(flipped(data, at))
+        got = me.file(hosts.flipped(data, at))
         me.shows(got, f"bit {at}", kind="bad", rows=[])
         me.see(got["line"].startswith("The check’s line: refused: "), f"the line for bit {at}", got)
-    got = me.file(flipped(data, words + 120))
+    got = me.file(hosts.flipped(data, words + 120))
     row = next(it for it in got["rows"] if f"{it['doc']}.text" == own)
     me.see("The check’s line: refused: text-root" in row["note"] and not row["text"], "a bit of a text", row)
     for changed in (data[: len(data) // 2], b"PK\3\4", b"", b"{}"):
@@ -622,7 +617,8 @@ def try_pins(me: Person) -> None:
     for name in ("page.css", "page.mjs", "page.wasm", "worker.mjs"):
 
         def changed(request: hosts.Request, reply: hosts.Reply, name: str = name) -> hosts.Reply:
-            return reply._replace(body=flipped(reply.body, len(reply.body) - 2)) if request.name == name else reply
+            is_it = request.name == name
+            return reply._replace(body=hosts.flipped(reply.body, len(reply.body) - 2)) if is_it else reply
 
         me.host.act = changed
         me.browser.open("about:blank")
