@@ -1,5 +1,5 @@
 -- The walk takes turn after turn until an answer is settled.
-use Rattle.std.proofs.Common.{◌+◌, ℕ, suc, List, set, get_or, refl, sym, subst, arith, inl, inr}
+use Rattle.std.proofs.Common.{◌<◌, ◌+◌, ℕ, zero, suc, List, set, get_or, refl, sym, subst, arith, inl, inr}
 use Rattle.std.proofs.lemmas.Bool.{cases_order}
 use Rattle.ats_bound.specs.declared.walk.Walk.{Walk}
 use Rattle.ats_bound.specs.Settled.{IsSettled}
@@ -32,6 +32,34 @@ reached_after Stops lanes cut i reached cannot next = record {
     ]
   ];
 }
+
+-- each cut before the last goes on with a next list
+goes_on : (lanes : List WholeLane) (n m : ℕ) (cut after : List ℕ) → n < m → IsScheduled lanes n cut → IsScheduled lanes m after → (i : ℕ) × IsNextLane lanes cut i
+goes_on lanes n zero cut after less first later = absurd (omega (arith, less))
+goes_on lanes n (suc m) cut after less first later = elim (cases_order n m) [
+  | inl same ↦
+      let here : IsScheduled lanes m cut = subst (λ (k : ℕ). IsScheduled lanes k cut) same first in
+      (later.2.place, subst (λ (c : List ℕ). IsNextLane lanes c later.2.place) (one_schedule lanes m later.0 cut later.1 here) later.2.next)
+  | inr other ↦ elim other [
+    | inl before ↦ goes_on lanes n m cut later.0 before first later.1
+    | inr after_it ↦ absurd (omega (arith, less, after_it))
+  ]
+]
+
+-- if it does not stop and no list comes next, it stops nowhere
+pub stops_nowhere : (Stops : List ℕ → Type 0) (lanes : List WholeLane) (cut : List ℕ) → IsReached Stops lanes cut → (Stops cut → ⊥)
+    → ((i : ℕ) → IsNextLane lanes cut i → ⊥) → (other : List ℕ) → IsFirstCut Stops lanes other → ⊥
+stops_nowhere Stops lanes cut reached cannot last other first = elim (cases_order first.turns reached.turns) [
+  | inl same ↦
+      let here : IsScheduled lanes reached.turns other = subst (λ (m : ℕ). IsScheduled lanes m other) same first.scheduled in
+      cannot (subst Stops (one_schedule lanes reached.turns other cut here reached.scheduled) first.stops)
+  | inr apart ↦ elim apart [
+    | inl before ↦ reached.none first.turns other before first.scheduled first.stops
+    | inr after ↦
+        let next = goes_on lanes reached.turns first.turns cut other after reached.scheduled first.scheduled in
+        last next.0 next.1
+  ]
+]
 
 -- if it stops, this cut is the first
 pub first_here : (Stops : List ℕ → Type 0) (lanes : List WholeLane) (cut : List ℕ) → IsReached Stops lanes cut → Stops cut → IsFirstCut Stops lanes cut

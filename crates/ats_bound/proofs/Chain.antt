@@ -15,7 +15,7 @@ use Rattle.ats_impact.specs.Rank.{times}
 use Rattle.ats_bound.specs.declared.bracket.Bracket.{Bracket}
 use Rattle.ats_bound.specs.Settled.{ArePicks, IsOutside, IsSettled, bracket_at, row, last_row}
 use Rattle.ats_bound.specs.Chosen.{AreBrackets, IsChosen, bracket_cmp, place_cmp}
-use Rattle.ats_bound.proofs.Places.{counted_places, few_places, some_place, position_of, stands_twice, range_once, range_has, range_below}
+use Rattle.ats_bound.proofs.Places.{counted_places, few_places, some_place, position_of, stands, stands_twice, range_once, range_has, range_below}
 
 -- b is not before a
 abbrev pub NotBefore : Bracket → Bracket → Type 0
@@ -96,12 +96,27 @@ module _ (brackets : List Bracket) (all : List ℕ) (same : IsPermutation (range
   size : length all ≡ total
   size = length_permutation _ _ same ∙ length-range_with_len 0 total
 
+  count_split : (r i : ℕ) → times i (take r all) + times i (drop r all) ≡ times i all
+  count_split r i = sum_by-take-drop (λ x. cond (nat_eq x i) 1 0) all r
+
+  -- a place that is not among the first is a later one
+  pub later_place : (r i : ℕ) → IsOutside brackets (take r all) i → (p : ℕ) × (r ≤ p) × (p < length all) × (get_or all p 0 ≡ i)
+  later_place r i out =
+      let there : 1 ≤ times i (drop r all) = omega (arith, times_all i, range_has i total out.0, count_split r i, out.1) in
+      let found = position_of i (drop r all) there in
+      (r + found.0, omega arith, omega (arith, found.1, length-drop r all), sym (get_or-drop r all found.0 0) ∙ found.2)
+
+  -- and a later one is not among the first
+  pub later_is_outside : (r p : ℕ) → r ≤ p → p < length all → IsOutside brackets (take r all) (get_or all p 0)
+  later_is_outside r p after inside =
+      let i : ℕ = get_or all p 0 in
+      let is : get_or (drop r all) (p - r) 0 ≡ i = get_or-drop r all (p - r) 0 ∙ ap (λ n. get_or all n 0) (omega (arith, after)) in
+      let there : 1 ≤ times i (drop r all) = rw is at (stands (drop r all) (p - r) (omega (arith, inside, after, length-drop r all))) in
+      (below p 0 inside, omega (arith, there, count_split r i, once_all i))
+
   -- their first ones are settled, if each scores at least what any later one can score, and nothing that is not met can score more
   module _ (threshold r : ℕ) (falls : (p q : ℕ) → p < q → q < length all → p < r → (put q).hi ≤ (put p).lo) (none : total < r → threshold ≡ 0)
       (unmet : 0 < length (take r all) → 0 < threshold → threshold ≤ (put (length (take r all) - 1)).lo) where
-    count_split : (i : ℕ) → times i (take r all) + times i (drop r all) ≡ times i all
-    count_split i = sum_by-take-drop (λ x. cond (nat_eq x i) 1 0) all r
-
     whole_size : length (take r all) ≡ min r total
     whole_size = rw size at (length-take r all)
 
@@ -126,16 +141,13 @@ module _ (brackets : List Bracket) (all : List ℕ) (same : IsPermutation (range
 
     rest : (i : ℕ) → IsOutside brackets (take r all) i → 0 < length (take r all) → (bracket_at brackets i).hi ≤ (last_row brackets (take r all)).lo
     rest i out some =
-        let there : 1 ≤ times i (drop r all) = omega (arith, times_all i, range_has i total out.0, count_split i, out.1) in
-        let found = position_of i (drop r all) there in
-        let is : get_or all (r + found.0) 0 ≡ i = sym (get_or-drop r all found.0 0) ∙ found.2 in
-        let low : r + found.0 < length all = omega (arith, found.1, length-drop r all) in
+        let found = later_place r i out in
         let few : last < r = omega (arith, some, whole_size) in
-        rw (row_is last (omega arith)) (rw is at (falls last (r + found.0) (omega (arith, few)) low few))
+        rw (row_is last (omega arith)) (rw found.3 at (falls last found.0 (omega (arith, few, found.1)) found.2 few))
 
     places_settled : IsSettled brackets (take r all) threshold r
     places_settled = record {
-      once = λ i. omega (arith, count_split i, once_all i);
+      once = λ i. omega (arith, count_split r i, once_all i);
       most = omega (arith, whole_size);
       whole = whole;
       falling = falling;

@@ -1,5 +1,5 @@
 -- Documents with their scores, as a map and as brackets.
-use Rattle.std.proofs.Common.{◌≡◌, ◌<◌, ◌≤◌, ◌||◌, ℕ, zero, suc, Bool, true, false, cond, nat_eq, nat_cmp, List, [], ◌∷◌, length, map, take, set, get_or, ◌+◌, Option, Some, None, refl, sym, ap, ap₂, subst, ◌∙◌, inl, inr, arith, length-take}
+use Rattle.std.proofs.Common.{◌≡◌, ◌<◌, ◌≤◌, ◌||◌, ◌^◌, ℕ, zero, suc, Bool, true, false, cond, nat_eq, nat_cmp, List, [], ◌∷◌, length, map, take, set, get_or, ◌+◌, Option, Some, None, refl, sym, ap, ap₂, subst, ◌∙◌, inl, inr, arith, length-take}
 use Rattle.std.specs.Option.{MatchOption, is_some}
 use Rattle.std.specs.Ordering.{is_eq, match_ordering}
 use Rattle.std.specs.declared.cmp.Ordering.{Ordering}
@@ -57,10 +57,9 @@ pub inserted_values : (es after : List (ℕ × ℕ)) (doc score : ℕ) → is_so
     → IsPermutation (score ∷ values_of es) (values_of after)
 inserted_values es after doc score new is = rw is (IsPermutation-map (λ (e : ℕ × ℕ). e.1) ((doc, score) ∷ es) (insert_entry nat_cmp es doc score) (inserted es doc score new))
 
-pub inserted_keeps : (given : ℕ → ℕ) (es after : List (ℕ × ℕ)) (doc score : ℕ) → is_some (score_in es doc) ≡ false → after ≡ insert_entry nat_cmp es doc score
-    → All (λ (pair : ℕ × ℕ). given pair.0 ≡ pair.1) es → given doc ≡ score → All (λ (pair : ℕ × ℕ). given pair.0 ≡ pair.1) after
-inserted_keeps given es after doc score new is all one =
-    let P : ℕ × ℕ → Type 0 = λ pair. given pair.0 ≡ pair.1 in
+pub inserted_keeps : (P : ℕ × ℕ → Type 0) (es after : List (ℕ × ℕ)) (doc score : ℕ) → is_some (score_in es doc) ≡ false → after ≡ insert_entry nat_cmp es doc score
+    → All P es → P (doc, score) → All P after
+inserted_keeps P es after doc score new is all one =
     rw is (All-permutation P ((doc, score) ∷ es) (insert_entry nat_cmp es doc score) (inserted es doc score new) (All-cons P (doc, score) es one all))
 
 -- ---- brackets
@@ -257,13 +256,13 @@ stage_of lanes cut = record { lanes = lanes; cut = cut }
 
 -- it begins at the first cut
 pub scored_first : (lanes : List WholeLane) (stage : Stage) (rows : ℕ) (scores : List (ℕ × ℕ)) (kept : List ℕ) → stage ≡ record { lanes = lanes; cut = first_cut lanes }
-    → AreWholeLanes lanes → 1 ≤ rows → IsStrictlySortedBy nat_cmp (keys_of scores) → AreBest kept (values_of scores) → length kept ≡ rows
+    → AreWholeLanes lanes → IsStrictlySortedBy nat_cmp (keys_of scores) → All (λ (pair : ℕ × ℕ). pair.1 < 2 ^ 64) scores → AreBest kept (values_of scores) → length kept ≡ rows + 1
     → ((doc : ℕ) → is_some (score_in scores doc) ≡ list_any (names doc) (shown lanes (first_cut lanes))) → AreScored stage rows scores kept
-scored_first lanes stage rows scores kept is whole some rise best size met =
+scored_first lanes stage rows scores kept is whole rise small best size met =
     subst (λ (s : Stage). AreScored s rows scores kept) (sym is) (record {
       stands = record { whole = whole; cut = first_is_cut lanes (have_entries lanes whole) };
-      some = some;
       rise = rise;
+      small = small;
       met = met;
       best = best;
       size = size;
@@ -272,15 +271,15 @@ scored_first lanes stage rows scores kept is whole some rise best size met =
 -- one entry more
 pub scored_after : (before after : Stage) (rows : ℕ) (scores new : List (ℕ × ℕ)) (kept best : List ℕ) (i doc : ℕ) → AreScored before rows scores kept
     → i < length before.lanes → IsOpen before.lanes before.cut i → doc ≡ (entry_on before i).doc → after.lanes ≡ before.lanes → after.cut ≡ set before.cut i (get_or before.cut i 0 + 1)
-    → IsStrictlySortedBy nat_cmp (keys_of new) → AreBest best (values_of new) → length best ≡ length kept
+    → IsStrictlySortedBy nat_cmp (keys_of new) → All (λ (pair : ℕ × ℕ). pair.1 < 2 ^ 64) new → AreBest best (values_of new) → length best ≡ length kept
     → ((other : ℕ) → is_some (score_in new other) ≡ (nat_eq doc other || is_some (score_in scores other))) → AreScored after rows new best
-scored_after before after rows scores new kept best i doc are inside more named lanes_are cut_is rise best_is size met =
+scored_after before after rows scores new kept best i doc are inside more named lanes_are cut_is rise small best_is size met =
     let next : List ℕ = set before.cut i (get_or before.cut i 0 + 1) in
     let same : record { lanes = before.lanes; cut = next } ≡ after = ap₂ (λ (lanes : List WholeLane) (cut : List ℕ). stage_of lanes cut) (sym lanes_are) (sym cut_is) in
     subst (λ (s : Stage). AreScored s rows new best) same (record {
       stands = record { whole = are.stands.whole; cut = cut_after before.lanes before.cut i are.stands.cut inside more };
-      some = are.some;
       rise = rise;
+      small = small;
       met = λ other.
           met other ∙ ap₂ (λ d b. nat_eq d other || b) named (are.met other) ∙ sym (names_after before i other are.stands inside more);
       best = best_is;

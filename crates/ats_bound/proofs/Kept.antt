@@ -3,7 +3,7 @@ use Rattle.std.proofs.Common.{◌≡◌, ◌≢◌, ◌<◌, ◌≤◌, ◌↔�
 use Rattle.std.specs.List.Sorted.{IsPermutation}
 use Rattle.std.specs.List.{SwappedAt}
 use Rattle.std.proofs.lemmas.Bool.{cases_order, cases_lt, le-leb, lt-leb}
-use Rattle.std.proofs.lemmas.List.{get_or_default}
+use Rattle.std.proofs.lemmas.List.{get_or_default, get_or_past, get_or-set_same, get_or-set_other}
 use Rattle.std.proofs.lemmas.List.Sums.{count_by-le-length, sum_by-cons, sum_by-le-sum_by, sum_by-set}
 use Rattle.std.proofs.lemmas.List.Folds.{sum_by-replicate}
 use Rattle.std.proofs.lemmas.List.Sorted.{length_permutation, sum_by-IsPermutation}
@@ -185,6 +185,47 @@ module _ (kept : List ℕ) (ascends : Ascends kept) where
           | inr le ↦ le
         ],
       )
+
+  -- the value after the first is reached by all that are kept but one; past the end of one value stands the most that
+  -- a value can be
+  pub next_reaches : (all : List ℕ) (threshold most : ℕ) → 1 ≤ length kept → AreBest kept all → 1 ≤ threshold → threshold ≤ most
+      → (threshold ≤ get_or kept 1 most) ↔ (length kept ≤ count_at_least threshold all + 1)
+  next_reaches all threshold most some best more high =
+      let is = best.each threshold more in
+      let one : count_at_least threshold (set kept 0 threshold) + reached threshold (get_or kept 0 0) ≡ count_at_least threshold kept + 1 =
+      rw (reached_yes threshold threshold (omega arith)) at (count_set threshold kept 0 threshold some) in
+      let size : length (set kept 0 threshold) ≡ length kept = length-set kept 0 threshold in
+      elim (cases_lt 1 (length kept)) [
+        | inr alone ↦ (λ _. omega (arith, some, alone), λ _. rw (get_or_past kept 1 most alone) high)
+        | inl two ↦
+            let same : get_or kept 1 most ≡ get_or kept 1 0 = get_or_default kept 1 most 0 two in
+            let there : get_or (set kept 0 threshold) 1 0 ≡ get_or kept 1 0 = get_or-set_other kept 0 1 threshold 0 (λ e. omega (arith, e)) in (
+              λ le.
+                  let every : count_at_least threshold (set kept 0 threshold) ≡ length (set kept 0 threshold) = count_all threshold (set kept 0 threshold) (λ i inside. elim (cases_lt 0 i) [
+                    | inl after ↦
+                        let other : get_or (set kept 0 threshold) i 0 ≡ get_or kept i 0 = get_or-set_other kept 0 i threshold 0 (λ e. omega (arith, e, after)) in
+                        omega (arith, other, ascends 1 i (omega (arith, after)) (omega (arith, inside, size)), same, le)
+                    | inr first ↦
+                        let zero_is : i ≡ 0 = omega (arith, first) in
+                        rw (zero_is, get_or-set_same kept 0 threshold 0 some) (omega arith)
+                  ]) in
+                  omega (arith, is, one, every, size),
+              λ many. elim (cases_lt (get_or kept 1 most) threshold) [
+                | inr le ↦ le
+                | inl less ↦
+                    absurd (omega (
+                      arith,
+                      is,
+                      many,
+                      one,
+                      size,
+                      two,
+                      reached_no threshold (get_or kept 0 0) (omega (arith, ascends 0 1 (omega arith) two, same, less)),
+                      count_short threshold (set kept 0 threshold) 1 (omega (arith, two, size)) (omega (arith, there, same, less)),
+                    ))
+              ],
+            )
+      ]
 
   -- one value more, which is not kept
   pub added_low : (all after : List ℕ) (value : ℕ) → AreBest kept all → IsPermutation (value ∷ all) after → value ≤ get_or kept 0 0 → AreBest kept after

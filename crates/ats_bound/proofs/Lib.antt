@@ -35,4 +35,5 @@ mod Open
 mod RunningSettled
 mod AllShown
 mod Within
+mod Shares
 mod Once

@@ -1,5 +1,5 @@
 -- What is known of the met documents after one more entry.
-use Rattle.std.proofs.Common.{◌≡◌, ◌≢◌, ◌<◌, ◌≤◌, ◌+◌, ◌*◌, ◌||◌, ◌++◌, ◌∷◌, [], ℕ, Bool, true, false, nat_eq, List, length, map, set, get_or, refl, sym, ap, ap₂, subst, ◌∙◌, arith, inl, inr, length-append, length-set, get_or-set_same, get_or-set_other}
+use Rattle.std.proofs.Common.{◌≡◌, ◌≢◌, ◌<◌, ◌≤◌, ◌+◌, ◌||◌, ◌++◌, ◌∷◌, [], ℕ, Bool, true, false, nat_eq, List, length, map, set, get_or, refl, sym, ap, ap₂, subst, ◌∙◌, arith, inl, inr, length-append, length-set, get_or-set_same, get_or-set_other}
 use Rattle.std.specs.List.{list_any}
 use Rattle.std.proofs.lemmas.Bool.{cases_Bool, cases_eq, cases_lt}
 use Rattle.std.proofs.lemmas.List.{get_or_append_left, get_or_default}

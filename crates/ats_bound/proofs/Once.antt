@@ -1,5 +1,5 @@
 -- No place is chosen twice.
-use Rattle.std.proofs.Common.{◌≤◌, ℕ, cond, nat_eq, List, length, arith}
+use Rattle.std.proofs.Common.{ℕ, cond, nat_eq, List, length, arith}
 use Rattle.std.specs.List.{range_with_len}
 use Rattle.std.proofs.lemmas.List.Sums.{sum_by-take-le}
 use Rattle.std.proofs.lemmas.List.Sorted.{sum_by-IsPermutation}

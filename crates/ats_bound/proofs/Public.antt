@@ -98,6 +98,10 @@ pub use Rattle.ats_bound.proofs.OneCut.{one_first}
 pub use Rattle.ats_bound.proofs.Ending.{first_exists}
 -- if no answer is settled at a reached cut, the next cut of the schedule is reached
 pub use Rattle.ats_bound.proofs.Advance.{reached_after}
+-- if a walk does not stop at a reached cut after which no list comes next, it stops at no cut
+pub use Rattle.ats_bound.proofs.Advance.{stops_nowhere}
+-- if a list comes next at a cut, some list is not whole there
+pub use Rattle.ats_bound.proofs.AllShown.{not_all_shown}
 -- the first cut of the schedule is reached, as no cut comes before it
 pub use Rattle.ats_bound.proofs.Advance.{reached_first}
 -- at a cut with threshold 0 and brackets no wider than that, the chosen answer is settled

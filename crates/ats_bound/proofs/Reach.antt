@@ -1,8 +1,8 @@
 -- With known scores the chosen answer is settled exactly if the necessary test passes.
-use Rattle.std.proofs.Common.{◌≡◌, ◌≢◌, ◌<◌, ◌≤◌, ◌↔◌, ◌+◌, ◌-◌, ℕ, zero, suc, leb, Bool, List, [], ◌∷◌, length, map, take, drop, set, get_or, refl, sym, subst, ap, ◌∙◌, inl, inr, arith, length-take, length-drop, length-set, get_or-set_other}
+use Rattle.std.proofs.Common.{◌≡◌, ◌≢◌, ◌<◌, ◌≤◌, ◌↔◌, ◌+◌, ◌-◌, ◌^◌, ℕ, zero, suc, leb, Bool, List, [], ◌∷◌, length, map, take, drop, set, get_or, refl, sym, subst, ap, ◌∙◌, inl, inr, arith, length-take, length-drop, length-set, get_or-set_other}
 use Rattle.ats_impact.specs.Rank.{times}
 use Rattle.std.specs.List.{All, count_by, range_with_len}
-use Rattle.std.proofs.lemmas.List.Elements.{All-head, All-tail, All-take}
+use Rattle.std.proofs.lemmas.List.Elements.{All-head, All-tail}
 use Rattle.std.specs.List.Sorted.{IsPermutation, IsSorted}
 use Rattle.std.specs.Bool.{IsTrue}
 use Rattle.std.specs.Map.{values_of}
@@ -10,7 +10,7 @@ use Rattle.std.proofs.lemmas.Bool.{cases_lt, le-leb, leb-true}
 use Rattle.std.proofs.lemmas.List.{ext_get_or, get_or_default, get_or-map, get_or-take, get_or-drop, length-map}
 use Rattle.std.proofs.lemmas.List.FromFn.{get_or-range_with_len, length-range_with_len}
 use Rattle.std.proofs.lemmas.List.Sums.{count_by-le-length, sum_by-cons, sum_by-take-drop}
-use Rattle.std.proofs.lemmas.List.Sorted.{All-permutation, IsPermutation-map, length_permutation}
+use Rattle.std.proofs.lemmas.List.Sorted.{IsPermutation-map, length_permutation}
 use Rattle.ats_bound.specs.declared.bracket.Bracket.{Bracket}
 use Rattle.ats_bound.specs.Inner.Best.{AreBest, count_at_least}
 use Rattle.ats_bound.specs.Cursors.{Stage, shown_on}
@@ -23,9 +23,9 @@ use Rattle.ats_bound.specs.Settled.{AreDistinct, ArePicks, IsSettled, bracket_at
 use Rattle.ats_bound.specs.Chosen.{AreBrackets, IsChosen, place_cmp}
 use Rattle.ats_bound.proofs.Kept.{count_cons, count_permuted, count_set, reached, reached_no, reached_yes}
 use Rattle.ats_bound.proofs.One.{one_bracketing}
-use Rattle.ats_bound.proofs.Places.{range_below, stands, times-cons, times_same}
+use Rattle.ats_bound.proofs.Places.{stands, times-cons, times_same}
 use Rattle.ats_bound.proofs.Exactly.{lows_are, scored_proper}
-use Rattle.ats_bound.proofs.Chain.{even_settled, falls}
+use Rattle.ats_bound.proofs.Chain.{chosen_are_picks, even_settled, falls}
 
 pub count_none : (least : ℕ) (xs : List ℕ) → ((i : ℕ) → i < length xs → get_or xs i 0 < least) → count_at_least least xs ≡ 0
 count_none least [] low = refl
@@ -33,7 +33,7 @@ count_none least (x ∷ xs) low =
     omega (arith, count_cons least x xs, reached_no least x (low 0 (omega arith)), count_none least xs (λ i inside. low (suc i) (omega (arith, inside))))
 
 -- of numbers that fall, those from place r - 1 on are low if the one there is
-few_reach : (least : ℕ) (xs : List ℕ) (k : ℕ) → ((i j : ℕ) → i < j → j < length xs → get_or xs j 0 ≤ get_or xs i 0) → k < length xs → get_or xs k 0 < least
+pub few_reach : (least : ℕ) (xs : List ℕ) (k : ℕ) → ((i j : ℕ) → i < j → j < length xs → get_or xs j 0 ≤ get_or xs i 0) → k < length xs → get_or xs k 0 < least
     → count_at_least least xs ≤ k
 few_reach least xs k fall inside low =
     let split = sum_by-take-drop (reached least) xs k in
@@ -110,24 +110,25 @@ module _ (brackets : List Bracket) (picks : List ℕ) (threshold r : ℕ) (prope
     ]
   ]
 
-module _ (brackets : List Bracket) (r : ℕ) (some : 1 ≤ r) (all : List ℕ) (even : (i : ℕ) → i < length brackets → (bracket_at brackets i).hi ≤ (bracket_at brackets i).lo)
-    (same : IsPermutation (range_with_len 0 (length brackets)) all) (ordered : IsSorted (place_cmp brackets) all) (threshold : ℕ) where
+-- brackets in the order of the chosen answer
+module _ (brackets : List Bracket) (all : List ℕ) (same : IsPermutation (range_with_len 0 (length brackets)) all) (ordered : IsSorted (place_cmp brackets) all) where
   abbrev low : ℕ → ℕ
   low i = (bracket_at brackets i).lo
 
   abbrev n : ℕ
   n = length brackets
 
-  abbrev lows : List ℕ
+  -- their lower bounds
+  abbrev pub lows : List ℕ
   lows = map low all
 
   size : length all ≡ n
   size = length_permutation (range_with_len 0 n) all same ∙ length-range_with_len 0 n
 
-  lows_size : length lows ≡ n
+  pub lows_size : length lows ≡ n
   lows_size = length-map all low ∙ size
 
-  lows_at : (k : ℕ) → k < n → get_or lows k 0 ≡ low (get_or all k 0)
+  pub lows_at : (k : ℕ) → k < n → get_or lows k 0 ≡ low (get_or all k 0)
   lows_at k inside = get_or-map low all k 0 0 (omega (arith, inside, size))
 
   in_order : map low (range_with_len 0 n) ≡ map (λ (b : Bracket). b.lo) brackets
@@ -139,62 +140,74 @@ module _ (brackets : List Bracket) (r : ℕ) (some : 1 ≤ r) (all : List ℕ) (
       let place : get_or (range_with_len 0 n) i 0 ≡ i = omega (arith, get_or-range_with_len 0 n i 0 within) in
       get_or-map low (range_with_len 0 n) i 0 0 (omega (arith, within, length-range_with_len 0 n)) ∙ ap low place ∙ sym (get_or-map lo brackets i (record { doc = 0; lo = 0; hi = 0 }) 0 within))
 
-  counted : count_at_least threshold lows ≡ count_by (λ (b : Bracket). leb threshold b.lo) brackets
-  counted = count_permuted threshold (map low (range_with_len 0 n)) lows (IsPermutation-map low (range_with_len 0 n) all same) ∙ ap (count_at_least threshold) in_order ∙ sym (count_lows threshold brackets)
+  pub counted : (least : ℕ) → count_at_least least lows ≡ count_by (λ (b : Bracket). leb least b.lo) brackets
+  counted least = count_permuted least (map low (range_with_len 0 n)) lows (IsPermutation-map low (range_with_len 0 n) all same) ∙ ap (count_at_least least) in_order ∙ sym (count_lows least brackets)
 
-  fall : (i j : ℕ) → i < j → j < length lows → get_or lows j 0 ≤ get_or lows i 0
+  pub fall : (i j : ℕ) → i < j → j < length lows → get_or lows j 0 ≤ get_or lows i 0
   fall i j less inside =
       let there : j < n = omega (arith, inside, lows_size) in
       rw (lows_at j there, lows_at i (omega (arith, less, there))) (falls brackets all ordered i j less (omega (arith, there, size))).0
 
-  last_is : r ≤ n → (last_row brackets (take r all)).lo ≡ get_or lows (r - 1) 0
-  last_is enough =
-      let count : length (take r all) ≡ r = omega (arith, length-take r all, size, enough) in
-      let place : get_or (take r all) (length (take r all) - 1) 0 ≡ get_or all (r - 1) 0 = ap (λ m. get_or (take r all) (m - 1) 0) count ∙ get_or-take r all (r - 1) 0 (omega (arith, some)) in
-      ap low place ∙ sym (lows_at (r - 1) (omega (arith, some, enough)))
+  module _ (r threshold : ℕ) (some : 1 ≤ r) (even : (i : ℕ) → i < length brackets → (bracket_at brackets i).hi ≤ (bracket_at brackets i).lo) where
+    last_is : r ≤ n → (last_row brackets (take r all)).lo ≡ get_or lows (r - 1) 0
+    last_is enough =
+        let count : length (take r all) ≡ r = omega (arith, length-take r all, size, enough) in
+        let place : get_or (take r all) (length (take r all) - 1) 0 ≡ get_or all (r - 1) 0 = ap (λ m. get_or (take r all) (m - 1) 0) count ∙ get_or-take r all (r - 1) 0 (omega (arith, some)) in
+        ap low place ∙ sym (lows_at (r - 1) (omega (arith, some, enough)))
 
-  pub exact_settles : PassesQuickTest brackets threshold r → IsSettled brackets (take r all) threshold r
-  exact_settles passes = elim passes [
-    | inl none ↦ rw none (even_settled brackets r all even same ordered)
-    | inr many ↦
-        let base : IsSettled brackets (take r all) 0 r = even_settled brackets r all even same ordered in
-        let enough : r ≤ n = omega (arith, many, counted, count_by-le-length (λ x. leb threshold x) lows, lows_size) in
-        let high : threshold ≤ get_or lows (r - 1) 0 = elim (cases_lt (get_or lows (r - 1) 0) threshold) [
-          | inl less ↦ absurd (omega (arith, some, many, counted, few_reach threshold lows (r - 1) fall (omega (arith, some, enough, lows_size)) less))
-          | inr le ↦ le
-        ] in
-        record {
-          once = base.once;
-          most = base.most;
-          whole = inl (omega (arith, length-take r all, size, enough));
-          falling = base.falling;
-          rest = base.rest;
-          unmet = λ rows more. omega (arith, high, last_is enough);
-        }
-  ]
+    pub exact_settles : PassesQuickTest brackets threshold r → IsSettled brackets (take r all) threshold r
+    exact_settles passes = elim passes [
+      | inl none ↦ rw none (even_settled brackets r all even same ordered)
+      | inr many ↦
+          let base : IsSettled brackets (take r all) 0 r = even_settled brackets r all even same ordered in
+          let enough : r ≤ n = omega (arith, many, counted threshold, count_by-le-length (λ x. leb threshold x) lows, lows_size) in
+          let high : threshold ≤ get_or lows (r - 1) 0 = elim (cases_lt (get_or lows (r - 1) 0) threshold) [
+            | inl less ↦ absurd (omega (arith, some, many, counted threshold, few_reach threshold lows (r - 1) fall (omega (arith, some, enough, lows_size)) less))
+            | inr le ↦ le
+          ] in
+          record {
+            once = base.once;
+            most = base.most;
+            whole = inl (omega (arith, length-take r all, size, enough));
+            falling = base.falling;
+            rest = base.rest;
+            unmet = λ rows more. omega (arith, high, last_is enough);
+          }
+    ]
 
--- the chosen picks are places
-pub chosen_inside : (brackets : List Bracket) (r : ℕ) (picks : List ℕ) → IsChosen brackets r picks → ArePicks brackets picks
-chosen_inside brackets r picks chosen =
-    let n : ℕ = length brackets in
-    let below : All (λ i. i < n) chosen.all = All-permutation (λ i. i < n) (range_with_len 0 n) chosen.all chosen.same (range_below n) in
-    rw (chosen.first) (All-take (λ i. i < n) r chosen.all below)
+-- no rows are settled
+none_settled : (brackets : List Bracket) (threshold : ℕ) (all : List ℕ) → IsSettled brackets (take 0 all) threshold 0
+none_settled brackets threshold all = record {
+  once = λ n. omega arith;
+  most = omega arith;
+  whole = inl refl;
+  falling = λ k low. absurd (omega (arith, low));
+  rest = λ i out some. absurd (omega (arith, some));
+  unmet = λ some more. absurd (omega (arith, some));
+}
 
 -- with known scores the chosen answer is settled exactly if the test passes
-pub exact_settled : (brackets : List Bracket) (r threshold : ℕ) (picks : List ℕ) → 1 ≤ r → AreBrackets brackets → ((i : ℕ) → i < length brackets → (bracket_at brackets i).hi ≤ (bracket_at brackets i).lo)
+pub exact_settled : (brackets : List Bracket) (r threshold : ℕ) (picks : List ℕ) → AreBrackets brackets → ((i : ℕ) → i < length brackets → (bracket_at brackets i).hi ≤ (bracket_at brackets i).lo)
     → IsChosen brackets r picks → PassesQuickTest brackets threshold r ↔ IsSettled brackets picks threshold r
-exact_settled brackets r threshold picks some proper even chosen = (
-  λ passes. rw (chosen.first) (exact_settles brackets r some chosen.all even chosen.same chosen.ordered threshold passes),
-  λ settled. settled_passes brackets picks threshold r proper (chosen_inside brackets r picks chosen) settled,
+exact_settled brackets r threshold picks proper even chosen = (
+  λ passes. rw (chosen.first) (elim (cases_lt 0 r) [
+    | inl some ↦ exact_settles brackets chosen.all chosen.same chosen.ordered r threshold some even passes
+    | inr none ↦ let is : 0 ≡ r = omega (arith, none) in subst (λ (m : ℕ). IsSettled brackets (take m chosen.all) threshold m) is (none_settled brackets threshold chosen.all)
+  ]),
+  λ settled. settled_passes brackets picks threshold r proper (chosen_are_picks brackets r picks chosen) settled,
 )
 
 -- ---- what a walk with known scores returns
 
-even_brackets : (scores : List (ℕ × ℕ)) (i : ℕ) → i < length (exact_brackets scores) → (bracket_at (exact_brackets scores) i).hi ≤ (bracket_at (exact_brackets scores) i).lo
+pub even_brackets : (scores : List (ℕ × ℕ)) (i : ℕ) → i < length (exact_brackets scores) → (bracket_at (exact_brackets scores) i).hi ≤ (bracket_at (exact_brackets scores) i).lo
 even_brackets scores i inside =
     let f : ℕ × ℕ → Bracket = λ pair. exact pair.0 pair.1 in
     let is = get_or-map f scores i (0, 0) (record { doc = 0; lo = 0; hi = 0 }) (omega (arith, inside, length-map scores f)) in
     omega (arith, ap (λ (b : Bracket). b.lo) is, ap (λ (b : Bracket). b.hi) is)
+
+-- a count of their brackets is one of the scores
+pub count_scores : (least : ℕ) (scores : List (ℕ × ℕ)) → count_by (λ (b : Bracket). leb least b.lo) (exact_brackets scores) ≡ count_at_least least (values_of scores)
+count_scores least scores = count_lows least (exact_brackets scores) ∙ ap (count_at_least least) (lows_are scores)
 
 -- the result of the necessary test reports whether an answer is settled
 pub tells_settled : (stage : Stage) (rows : ℕ) (scores : List (ℕ × ℕ)) (kept : List ℕ) (answer : Bool) → AreScored stage rows scores kept
@@ -205,7 +218,7 @@ tells_settled stage rows scores kept answer are quick bounds of =
     record {
       chosen = λ brackets picks others chosen.
           let same : exact_brackets scores ≡ brackets = one_bracketing bounds (shown_on stage) (exact_brackets scores) brackets of others in
-          let both = exact_settled (exact_brackets scores) rows threshold_here picks are.some (scored_proper scores) (even_brackets scores) (rw same chosen) in
+          let both = exact_settled (exact_brackets scores) rows threshold_here picks (scored_proper scores) (even_brackets scores) (rw same chosen) in
           rw (← same) ((λ t. both.0 (quick.0 t)), (λ settled. quick.1 (both.1 settled)));
       any = λ can.
           let same : can.brackets ≡ exact_brackets scores = one_bracketing bounds (shown_on stage) can.brackets (exact_brackets scores) can.bounded of in
@@ -214,16 +227,16 @@ tells_settled stage rows scores kept answer are quick bounds of =
           quick.1 (settled_passes (exact_brackets scores) can.answer threshold_here rows (scored_proper scores) inside settled);
     }
 
--- if the threshold is not 0, the smallest of the largest scores decides
-pub least_answers : (stage : Stage) (rows : ℕ) (scores : List (ℕ × ℕ)) (kept : List ℕ) (threshold least : ℕ) → AreScored stage rows scores kept
-    → ((all : List ℕ) (t : ℕ) → AreBest kept all → 1 ≤ t → (t ≤ least) ↔ (length kept ≤ count_at_least t all)) → (threshold ≡ 0 → ⊥)
-    → IsTrue (leb threshold least) ↔ PassesQuickTest (exact_brackets scores) threshold rows
-least_answers stage rows scores kept threshold least are tells more =
-    let both = tells (values_of scores) threshold are.best (omega (arith, more)) in
+-- if the threshold is not 0, the smallest of the scores that rows can have decides
+pub next_answers : (stage : Stage) (rows : ℕ) (scores : List (ℕ × ℕ)) (kept : List ℕ) (threshold next : ℕ) → AreScored stage rows scores kept
+    → ((all : List ℕ) (t : ℕ) → AreBest kept all → 1 ≤ t → t < 2 ^ 64 → (t ≤ next) ↔ (length kept ≤ count_at_least t all + 1)) → threshold < 2 ^ 64 → (threshold ≡ 0 → ⊥)
+    → IsTrue (leb threshold next) ↔ PassesQuickTest (exact_brackets scores) threshold rows
+next_answers stage rows scores kept threshold next are tells low more =
+    let both = tells (values_of scores) threshold are.best (omega (arith, more)) low in
     let lows : count_by (λ (b : Bracket). leb threshold b.lo) (exact_brackets scores) ≡ count_at_least threshold (values_of scores) =
-    count_lows threshold (exact_brackets scores) ∙ ap (count_at_least threshold) (lows_are scores) in (
-      λ holds. inr (omega (arith, both.0 (leb-true threshold least holds), lows, are.size)),
-      λ passes. elim passes [ inl none ↦ absurd (more none) | inr many ↦ le-leb threshold least (both.1 (omega (arith, many, lows, are.size))) ],
+    count_scores threshold scores in (
+      λ holds. inr (omega (arith, both.0 (leb-true threshold next holds), lows, are.size)),
+      λ passes. elim passes [ inl none ↦ absurd (more none) | inr many ↦ le-leb threshold next (both.1 (omega (arith, many, lows, are.size))) ],
     )
 
 pub zero_answers : (rows threshold : ℕ) (brackets : List Bracket) → threshold ≡ 0 → (answer : Bool) → IsTrue answer → IsTrue answer ↔ PassesQuickTest brackets threshold rows

@@ -1,7 +1,8 @@
 -- When a cut shows enough for an answer of which this list is one part: as many rows as are asked, each within its span,
 -- and nothing else above the floor.
-use Rattle.std.specs.Prelude.{◌≡◌, ◌<◌, ◌≤◌, ℕ, List, length, slice_index_or}
+use Rattle.std.specs.Prelude.{◌≡◌, ◌<◌, ◌≤◌, ℕ, List, length, replicate, slice_index_or}
 use Rattle.ats_bound.specs.declared.bracket.Bracket.{Bracket}
+use Rattle.ats_bound.specs.declared.share.Share.{Share}
 use Rattle.ats_bound.specs.Chosen.{IsChosen}
 use Rattle.ats_bound.specs.Cut.{threshold}
 use Rattle.ats_bound.specs.Schedule.{AreBracketsBy, Bounding, IsFirstCut, WholeLane, shown}
@@ -16,6 +17,13 @@ pub record Span : Type 0 where
 pub record Floors : Type 0 where
   pub spans : List Span
   pub floor : ℕ
+
+-- what a share asks for: each row scores at least its floor, and nothing else scores above it
+abbrev pub floors_of_share : Share → Floors
+floors_of_share share = record {
+  spans = replicate share.rows (record { lower = share.floor; upper = 0xffff_ffff_ffff_ffff });
+  floor = share.floor;
+}
 
 abbrev pub span_at : List Span → ℕ → Span
 span_at spans k = slice_index_or spans k (record { lower = 0; upper = 0 })

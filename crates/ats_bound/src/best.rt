@@ -1,15 +1,14 @@
 //! The largest of a growing list of values.
 
-ghost use Rattle.std.specs.Prelude.{◌≡◌, ◌<◌, ◌≤◌, ◌↔◌, ◌∷◌, [], ℕ, List, length, slice_index, slice_set, IfOk};
+ghost use Rattle.std.specs.Prelude.{◌≡◌, ◌<◌, ◌≤◌, ◌+◌, ◌^◌, ◌↔◌, ◌∷◌, [], ℕ, List, length, slice_index, slice_set, IfOk};
 ghost use Rattle.std.specs.List.Sorted.{IsPermutation};
 ghost use Rattle.ats_bound.specs.Inner.Best.{AreBest, Ascends, AscendsBut, count_at_least};
 
 use crate::memory::OutOfMemory;
-use ats_impact::Top;
 use std::alloc::Global;
 use std::marker::Model;
 
-/// The largest values of a list, as many as an answer may have rows.
+/// The largest values of a list, one or more.
 ///
 /// The values ascend. A 0 fills the place of each that is still missing, so no call after the first allocates.
 #[derive(Drop)]
@@ -44,23 +43,31 @@ fn sift(values: &mut [u64], place: usize)
 }
 
 impl Best {
-    /// No value yet, and room for as many as an answer may have rows.
-    pub(crate) fn new(alloc: Global, top: Top) -> Result<Best, OutOfMemory>
-        ensures size { IfOk result (λ best. length best ≡ top) }
+    /// No value yet, and room for this many.
+    pub(crate) fn new(alloc: Global, size: usize) -> Result<Best, OutOfMemory>
+        requires { 1 ≤ size }
+        ensures size { IfOk result (λ best. length best ≡ size) }
         ensures none { IfOk result (λ best. AreBest best []) }
-        ensures some { 1 ≤ top }
     {
         Ok(Best {
-            values: vec![in alloc; 0u64; top.get() as usize]?,
+            values: vec![in alloc; 0u64; size]?,
         })
     }
 
-    /// The smallest of the values kept; 0 if there are fewer than rows.
+    /// The smallest of the values kept; 0 if one is still missing.
     pub(crate) fn least(&self) -> u64
         ensures { (all : List ℕ) (threshold : ℕ) → AreBest self.now all → 1 ≤ threshold
             → (threshold ≤ result) ↔ (length self.now ≤ count_at_least threshold all) }
     {
         self.values[0]
+    }
+
+    /// The value after the smallest one. If only one is kept it is the most that a value can be.
+    pub(crate) fn next(&self) -> u64
+        ensures { (all : List ℕ) (threshold : ℕ) → AreBest self.now all → 1 ≤ threshold → threshold < 2 ^ 64
+            → (threshold ≤ result) ↔ (length self.now ≤ count_at_least threshold all + 1) }
+    {
+        self.values.get(1).copied().unwrap_or(u64::MAX)
     }
 
     // Replaces the value at a place by one that is no lower.

@@ -69,6 +69,21 @@ fn places_of(alloc: Global, all: &[Placed]) -> Result<Picks, OutOfMemory>
     Ok(picks)
 }
 
+/// The places of the first brackets, as [`choose`] orders them, for any number of rows.
+pub(crate) fn choose_rows(
+    alloc: Global,
+    brackets: &[Bracket],
+    rows: usize,
+) -> Result<Picks, OutOfMemory>
+    requires { HaveDistinctDocs brackets.now }
+    ensures { IfOk result (IsChosen brackets.now rows) }
+{
+    let mut all = with_places(alloc, brackets)?;
+    sort_placed(&mut all)?;
+    all.truncate(rows);
+    places_of(alloc, &all)
+}
+
 /// The places of the first brackets by lower bound descending, then upper bound descending, then
 /// document ascending.
 ///
@@ -81,8 +96,5 @@ pub fn choose(alloc: Global, brackets: &[Bracket], top: Top) -> Result<Picks, Ou
     ensures settled { IfOk result (λ picks. (threshold : ℕ) (answer : List ℕ) → ArePicks brackets.now answer
         → IsSettled brackets.now answer threshold top → IsSettled brackets.now picks threshold top) }
 {
-    let mut all = with_places(alloc, brackets)?;
-    sort_placed(&mut all)?;
-    all.truncate(top.get() as usize);
-    places_of(alloc, &all)
+    choose_rows(alloc, brackets, top.get() as usize)
 }

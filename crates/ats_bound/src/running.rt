@@ -143,7 +143,7 @@ impl<'a> Running<'a> {
     {
         let cursors = Cursors::new(alloc, lanes)?;
         let mut known = MetDocuments::new(alloc);
-        let mut best = Best::new(alloc, top)?;
+        let mut best = Best::new(alloc, top.get() as usize)?;
         meet_first(lanes, &mut known, &mut best)?;
         Ok(Running {
             alloc,

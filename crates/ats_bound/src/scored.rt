@@ -1,6 +1,6 @@
 //! A walk that is given the score of each document that an entry names.
 
-ghost use Rattle.std.specs.Prelude.{◌≡◌, ◌≢◌, ◌↔◌, ◌||◌, ◌==◌, ◌<◌, ◌≤◌, ◌+◌, ◌∷◌, [], ℕ, Bool, true, false, List, length, map, set, slice_index, is_some, IfOk, IfSome, IsNone, OnOk, OnErr, IsTrue, MatchOption};
+ghost use Rattle.std.specs.Prelude.{◌≡◌, ◌≢◌, ◌↔◌, ◌||◌, ◌==◌, ◌<◌, ◌≤◌, ◌+◌, ◌^◌, ◌∷◌, [], ℕ, Bool, true, false, List, length, map, set, slice_index, is_some, IfOk, IfSome, IsNone, OnOk, OnErr, IsTrue, MatchOption};
 ghost use Rattle.std.specs.List.{All, Contains, list_any};
 ghost use Rattle.std.specs.List.Sorted.{IsStrictlySortedBy};
 ghost use Rattle.std.specs.Map.{keys_of, values_of};
@@ -9,6 +9,7 @@ ghost use Rattle.ats_bound.specs.Inner.Best.{AreBest};
 ghost use Rattle.ats_bound.specs.Chosen.{IsChosen};
 ghost use Rattle.ats_bound.specs.Cut.{names, threshold};
 ghost use Rattle.ats_bound.specs.Cursors.{IsStage, entry_on, shown_on};
+ghost use Rattle.ats_bound.specs.Floors.{IsWithinBy, floors_of_share};
 ghost use Rattle.ats_bound.specs.Schedule.{AreAllShown, AreBracketsBy, AreWholeLanes, Bounding, IsNextLane, IsOpen, first_cut, has_bracket, shown, whole_lanes};
 ghost use Rattle.ats_bound.specs.Settled.{ArePicks, IsSettled};
 ghost use Rattle.ats_bound.specs.Scored.{AreFirstScores, exact, exactly};
@@ -17,12 +18,11 @@ ghost use Rattle.ats_bound.specs.QuickTest.{PassesQuickTest, TellsSettled};
 
 use crate::best::Best;
 use crate::bracket::{Bracket, Brackets};
-use crate::choosing::choose;
+use crate::choosing::choose_rows;
 use crate::cursors::Cursors;
 use crate::lane::Lane;
 use crate::memory::OutOfMemory;
 use crate::walk::Walk;
-use ats_impact::Top;
 use std::alloc::Global;
 use std::collections::BTreeMap;
 use std::marker::Model;
@@ -35,7 +35,7 @@ use std::marker::Model;
 pub struct Scored<'a> {
     alloc: Global,
     cursors: Cursors<'a>,
-    top: Top,
+    rows: u32,
     scores: BTreeMap<u32, u64>,
     best: Best,
 }
@@ -46,9 +46,9 @@ impl<'a> Model for Scored<'a> {
 
     ghost Value = { ScoredStanding };
 
-    ghost view = { λ s. record { stage = s.cursors; rows = s.top; brackets = exact_brackets s.scores.entries } };
+    ghost view = { λ s. record { stage = s.cursors; rows = s.rows; brackets = exact_brackets s.scores.entries } };
 
-    ghost invariant = { λ s. AreScored s.cursors s.top s.scores.entries s.best };
+    ghost invariant = { λ s. AreScored s.cursors s.rows s.scores.entries s.best };
 }
 
 // Adds the score of a document that is not met yet.
@@ -59,8 +59,10 @@ fn meet(
     score: u64,
 ) -> Result<(), OutOfMemory>
     requires rise { IsStrictlySortedBy nat_cmp (keys_of scores.old.entries) }
+    requires small { All (λ pair. pair.1 < 2 ^ 64) scores.old.entries }
     requires best { AreBest best.old (values_of scores.old.entries) }
     ensures rise { IsStrictlySortedBy nat_cmp (keys_of scores.new.entries) }
+    ensures small { All (λ pair. pair.1 < 2 ^ 64) scores.new.entries }
     ensures best { AreBest best.new (values_of scores.new.entries) }
     ensures size { length best.new ≡ length best.old }
     ensures met { OnOk result ((other : ℕ) → is_some (score_in scores.new.entries other)
@@ -104,6 +106,7 @@ fn first_met(
     requires each { length scores.now ≡ length lanes.now }
     requires none { AreBest best.old [] }
     ensures rise { IfOk result (λ met. IsStrictlySortedBy nat_cmp (keys_of met.entries)) }
+    ensures small { IfOk result (λ met. All (λ pair. pair.1 < 2 ^ 64) met.entries) }
     ensures best { IfOk result (λ met. AreBest best.new (values_of met.entries)) }
     ensures size { length best.new ≡ length best.old }
     ensures met { IfOk result (λ met. (doc : ℕ) → is_some (score_in met.entries doc)
@@ -119,31 +122,30 @@ fn first_met(
 }
 
 impl<'a> Scored<'a> {
-    /// Begins with one entry of each list. The scores are those of the documents that the first entries name, one for
-    /// each list; if several name a document, the first of its scores stays.
+    /// Begins with one entry of each list, for an answer of at most so many rows. The scores are those of the documents
+    /// that the first entries name, one for each list; if several name a document, the first of its scores stays.
     pub fn new(
         alloc: Global,
         lanes: &[Lane<'a>],
-        top: Top,
+        rows: u32,
         scores: &[u64],
     ) -> Result<Scored<'a>, OutOfMemory>
         requires lanes { AreWholeLanes (whole_lanes lanes.now) }
         requires each { length scores.now ≡ length lanes.now }
         ensures stage { IfOk result (λ walk.
             walk.stage ≡ record { lanes = whole_lanes lanes.now; cut = first_cut (whole_lanes lanes.now) }) }
-        ensures rows { IfOk result (λ walk. walk.rows ≡ top) }
+        ensures rows { IfOk result (λ walk. walk.rows ≡ rows) }
         ensures brackets { IfOk result (λ walk. (given : ℕ → ℕ)
             → AreFirstScores given (whole_lanes lanes.now) scores.now
             → AreBracketsBy (exactly given) (shown_on walk.stage) walk.brackets) }
     {
-        let _facts = top.get();
         let cursors = Cursors::new(alloc, lanes)?;
-        let mut best = Best::new(alloc, top)?;
+        let mut best = Best::new(alloc, rows as usize + 1)?;
         let scores = first_met(alloc, lanes, scores, &mut best)?;
         Ok(Scored {
             alloc,
             cursors,
-            top,
+            rows,
             scores,
             best,
         })
@@ -206,7 +208,23 @@ impl<'a> Scored<'a> {
             → TellsSettled bounds self.now.stage.lanes self.now.rows self.now.stage.cut result }
     {
         let threshold = self.cursors.threshold();
-        threshold == 0 || threshold <= self.best.least()
+        threshold == 0 || threshold <= self.best.next()
+    }
+
+    /// Whether the chosen answer is all that is asked of a shard: it has as many rows as it may have, each scores at
+    /// least the floor, and no other document can score above it.
+    pub fn within(&self, floor: u64) -> bool
+        ensures { (bounds : Bounding) → AreBracketsBy bounds (shown_on self.now.stage) self.now.brackets → IsTrue result
+            ↔ IsWithinBy bounds self.now.stage.lanes (floors_of_share (record { rows = self.now.rows; floor = floor }))
+            self.now.stage.cut }
+    {
+        let threshold = self.cursors.threshold();
+        let least = self.best.least();
+        let next = self.best.next();
+        if threshold > floor || least > floor || next < floor {
+            return false;
+        }
+        self.rows as usize <= self.scores.len()
     }
 
     /// How many entries of each list are shown, the brackets of the met documents by document ascending, the chosen
@@ -224,13 +242,13 @@ impl<'a> Scored<'a> {
         let Scored {
             alloc,
             cursors,
-            top,
+            rows,
             scores,
             best: _,
         } = self;
         let threshold = cursors.threshold();
         let brackets = brackets(alloc, &scores)?;
-        let picks = choose(alloc, brackets.as_slice(), top)?;
+        let picks = choose_rows(alloc, brackets.as_slice(), rows as usize)?;
         Ok(Walk {
             cut: cursors.cut(),
             brackets,

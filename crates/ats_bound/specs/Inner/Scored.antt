@@ -1,6 +1,6 @@
 -- Beside specs/Scored: what only the functions of this room promise one another.
-use Rattle.std.specs.Prelude.{◌≡◌, ◌≤◌, ℕ, List, length, map, is_some, Option}
-use Rattle.std.specs.List.{list_any}
+use Rattle.std.specs.Prelude.{◌≡◌, ◌<◌, ◌+◌, ◌^◌, ℕ, List, length, map, is_some, Option}
+use Rattle.std.specs.List.{All, list_any}
 use Rattle.std.specs.List.Sorted.{IsStrictlySortedBy}
 use Rattle.std.specs.Map.{keys_of, values_of, lookup}
 use Rattle.std.specs.BTreeMap.{is_at}
@@ -19,11 +19,12 @@ exact_brackets scores = map (λ (pair : ℕ × ℕ). exact pair.0 pair.1) scores
 abbrev pub score_in : List (ℕ × ℕ) → ℕ → Option ℕ
 score_in scores doc = lookup (is_at (nat_cmp doc)) scores
 
--- the scores of the documents that the shown entries name, by document ascending, and the largest of them
+-- the scores of the documents that the shown entries name, by document ascending, and the largest of them, one more
+-- than rows
 pub record AreScored (stage : Stage) (rows : ℕ) (scores : List (ℕ × ℕ)) (kept : List ℕ) : Type 0 where
   pub stands : IsStage stage
-  pub some : 1 ≤ rows
   pub rise : IsStrictlySortedBy nat_cmp (keys_of scores)
+  pub small : All (λ pair. pair.1 < 2 ^ 64) scores
   pub met : (doc : ℕ) → is_some (score_in scores doc) ≡ list_any (names doc) (shown_on stage)
   pub best : AreBest kept (values_of scores)
-  pub size : length kept ≡ rows
+  pub size : length kept ≡ rows + 1

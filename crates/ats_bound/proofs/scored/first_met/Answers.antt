@@ -23,6 +23,7 @@ loop-i-preserved c =
     let doc : c.first_document.result ≡ first_document lanes i = c.first_document.ensures ∙ sym (first_given c.args.lanes.now i given_inside) in
     record {
       rise = c.meet.ensures.rise;
+      small = c.meet.ensures.small;
       best = c.meet.ensures.best;
       size = c.meet.ensures.size ∙ c.loop-i.invariant.size;
       met = λ other.

@@ -1,4 +1,4 @@
-use Rattle.std.proofs.Common.{◌≡◌, ℕ, List, false, sym, ◌∙◌}
+use Rattle.std.proofs.Common.{◌≡◌, ◌<◌, ◌^◌, ℕ, List, false, sym, ◌∙◌, arith}
 use Rattle.std.specs.Option.{is_some}
 use Rattle.std.specs.Map.{values_of}
 use Rattle.ats_bound.specs.Inner.Scored.{score_in}
@@ -13,8 +13,14 @@ returns-clause-best c =
     c.add.ensures.best (values_of scores) (values_of after) c.requires.best
     (inserted_values scores after c.args.doc c.args.score new c.in_ok-insert.ensures.entries)
 
+pub returns-clause-small : goal.returns-clause-small
+returns-clause-small c =
+    let scores : List (ℕ × ℕ) = c.args.scores.now.entries in
+    let new : is_some (score_in scores c.args.doc) ≡ false = sym c.contains_key.ensures ∙ c.if-contains_key.false in
+    inserted_keeps (λ (pair : ℕ × ℕ). pair.1 < 2 ^ 64) scores c.insert.new.self.entries c.args.doc c.args.score new c.in_ok-insert.ensures.entries c.requires.small (omega arith)
+
 pub returns-clause-scores : goal.returns-clause-scores
 returns-clause-scores c = λ given all one.
     let scores : List (ℕ × ℕ) = c.args.scores.now.entries in
     let new : is_some (score_in scores c.args.doc) ≡ false = sym c.contains_key.ensures ∙ c.if-contains_key.false in
-    inserted_keeps given scores c.insert.new.self.entries c.args.doc c.args.score new c.in_ok-insert.ensures.entries all (one new)
+    inserted_keeps (λ (pair : ℕ × ℕ). given pair.0 ≡ pair.1) scores c.insert.new.self.entries c.args.doc c.args.score new c.in_ok-insert.ensures.entries all (one new)

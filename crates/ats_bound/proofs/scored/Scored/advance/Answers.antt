@@ -15,8 +15,8 @@ invariant_of-self-2 c =
     let same : before ≡ c.args.self.now.stage = ap (λ (s : ScoredStanding). s.stage) c.self.view_is in
     let inside : c.args.lane < length before.lanes = subst (λ (s : Stage). c.args.lane < length s.lanes) (sym same) c.requires.inside in
     let more : IsOpen before.lanes before.cut c.args.lane = subst (λ (s : Stage). IsOpen s.lanes s.cut c.args.lane) (sym same) c.requires.more in
-    scored_after before c.advance.new.self c.self.inside.top c.self.inside.scores.entries c.meet.new.scores.entries c.self.inside.best c.meet.new.best c.args.lane c.gain-doc.result.doc
-    c.self.invariant inside more c.gain-doc.ensures.doc c.advance.ensures.lanes c.advance.ensures.cut c.meet.ensures.rise c.meet.ensures.best c.meet.ensures.size c.in_ok-meet.ensures.met
+    scored_after before c.advance.new.self c.self.inside.rows c.self.inside.scores.entries c.meet.new.scores.entries c.self.inside.best c.meet.new.best c.args.lane c.gain-doc.result.doc
+    c.self.invariant inside more c.gain-doc.ensures.doc c.advance.ensures.lanes c.advance.ensures.cut c.meet.ensures.rise c.meet.ensures.small c.meet.ensures.best c.meet.ensures.size c.in_ok-meet.ensures.met
 
 pub returns-clause-brackets : goal.returns-clause-brackets
 returns-clause-brackets c = λ given were one.
@@ -32,5 +32,5 @@ returns-clause-brackets c = λ given were one.
     subst (λ (bs : List Bracket). has_bracket (entry_on c.args.self.now.stage c.args.lane).doc bs ≡ false) brackets
     (subst (λ (d : ℕ). has_bracket d (exact_brackets scores) ≡ false) doc (has_exact c.gain-doc.result.doc scores ∙ unmet)) in
     ap given doc ∙ one gone in
-    scored_brackets given c.advance.new.self c.self.inside.top c.meet.new.scores.entries c.meet.new.best (invariant_of-self-2 c)
+    scored_brackets given c.advance.new.self c.self.inside.rows c.meet.new.scores.entries c.meet.new.best (invariant_of-self-2 c)
     (c.in_ok-meet.ensures.scores given (given_scores given (shown_on c.args.self.now.stage) scores all) new)
