@@ -9,8 +9,9 @@
 //! entries only, [`Scored`] is given the scores. [`settled`] returns exactly whether the rules of a settled answer
 //! hold, and if any answer is settled, the one from [`choose`] is. Each walk of whole lists takes the turns of one
 //! schedule, reports at each cut exactly whether that answer is settled there, and ends, at one cut with one answer. A
-//! settled answer is a top answer if the brackets contain the scores. A [`Work`] begins with zero marks. How places
-//! are looked up, brackets sorted, what is known kept and open answers found may change freely.
+//! settled answer is a top answer if the brackets contain the scores. A [`Share`] is what one shard of a catalog is
+//! asked for, and [`Scored`] reports exactly whether a cut shows it. A [`Work`] begins with zero marks. How places are
+//! looked up, brackets sorted, what is known kept and open answers found may change freely.
 //!
 //! ```
 //! use ats_impact::Top;

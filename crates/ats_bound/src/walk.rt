@@ -4,8 +4,8 @@ use crate::bracket::Brackets;
 use crate::cut::Cut;
 use crate::picks::Picks;
 
-/// The first cut at which an answer is settled: the brackets of the documents met there, the answer's places among
-/// them, and the most that any other document can score.
+/// The cut at which a walk ends, the brackets of the documents met there, the places of the chosen answer among them,
+/// and the most that any other document can score.
 #[derive(Drop)]
 pub struct Walk {
     pub cut: Cut,

@@ -1,16 +1,26 @@
--- The turns of a walk with known scores.
-use Rattle.std.proofs.Common.{◌≡◌, ℕ, Bool, List, length, sym, subst}
+-- The turns of a walk with known scores, and its end.
+use Rattle.std.proofs.Common.{◌≡◌, ◌↔◌, ℕ, Bool, List, length, sym, subst, inl, inr}
+use Rattle.std.specs.Bool.{IsTrue}
+use Rattle.std.proofs.lemmas.List.{length-replicate}
 use Rattle.ats_bound.specs.declared.bracket.Bracket.{Bracket}
+use Rattle.ats_bound.specs.declared.share.Share.{Share}
 use Rattle.ats_bound.specs.declared.walk.Walk.{Walk}
 use Rattle.ats_bound.specs.Chosen.{IsChosen}
 use Rattle.ats_bound.specs.Cut.{threshold}
 use Rattle.ats_bound.specs.Cursors.{IsStage, Stage, shown_on}
+use Rattle.ats_bound.specs.Floors.{AreWithin, Floors, IsFirstWithinBy, IsWithinBy, floors_of_share}
+use Rattle.ats_bound.specs.Inner.Stopped.{IsEnd}
 use Rattle.ats_bound.specs.Lookup.{Table, looked_up}
-use Rattle.ats_bound.specs.Schedule.{AreBracketsBy, Bounding, WholeLane, shown}
+use Rattle.ats_bound.specs.Narrow.{AreNarrow}
+use Rattle.ats_bound.specs.Schedule.{AreAllShown, AreBracketsBy, Bounding, CanSettleBy, IsNextLane, WholeLane, shown}
 use Rattle.ats_bound.specs.Scored.{ScoredStanding, exactly}
 use Rattle.ats_bound.specs.QuickTest.{TellsSettled}
 use Rattle.ats_bound.specs.Settled.{ArePicks, IsSettled}
 use Rattle.ats_bound.specs.Stopped.{IsStoppedAt}
+use Rattle.ats_bound.proofs.Public.{chosen_are_picks, chosen_exists, end_at, first_here, not_all_shown, one_bracketing, one_chosen, risen_are_distinct, stops_nowhere, whole_settled}
+use Rattle.ats_tra.specs.declared.walking.End.{End}
+use Rattle.ats_tra.specs.declared.walking.End.TheVariants.{Settled, Within}
+use Rattle.ats_tra.specs.Inner.Ends.{EndsAt, HasRun}
 use Rattle.ats_tra.specs.Inner.Looked.{score_by}
 use Rattle.ats_tra.proofs.Exact.{scores_are_looked}
 
@@ -22,14 +32,30 @@ looked_there table lanes stage brackets same is known =
     let size : length stage.cut ≡ length lanes = subst (λ (ls : List WholeLane). length stage.cut ≡ length ls) same is.cut.size in
     scores_are_looked table lanes stage.cut brackets size (subst Here same known)
 
--- so whether an answer is settled is reported
-pub told_there : (bounds : Bounding) (lanes : List WholeLane) (r : ℕ) (walk : ScoredStanding) (told : Bool) → walk.stage.lanes ≡ lanes → walk.rows ≡ r
-    → ((bs : Bounding) → AreBracketsBy bs (shown_on walk.stage) walk.brackets → TellsSettled bs walk.stage.lanes walk.rows walk.stage.cut told)
-    → AreBracketsBy bounds (shown lanes walk.stage.cut) walk.brackets → TellsSettled bounds lanes r walk.stage.cut told
-told_there bounds lanes r walk told same rows tells of =
+-- what a walk with known scores reports is whether any answer is settled
+pub told_exactly : (bounds : Bounding) (lanes : List WholeLane) (r : ℕ) (cut : List ℕ) (told : Bool) (brackets : List Bracket)
+    → AreBracketsBy bounds (shown lanes cut) brackets → TellsSettled bounds lanes r cut told → IsTrue told ↔ CanSettleBy bounds lanes r cut
+told_exactly bounds lanes r cut told brackets of tells = (
+  λ yes.
+      let chosen = chosen_exists brackets r in
+      record {
+        brackets = brackets;
+        bounded = of;
+        answer = chosen.0;
+        inside = chosen_are_picks brackets r chosen.0 chosen.1;
+        settled = (tells.chosen brackets chosen.0 of chosen.1).0 yes;
+      },
+  tells.any,
+)
+
+-- what the test of an end reports of a stage holds of the lists that it is about
+pub test_there : (bounds : Bounding) (lanes : List WholeLane) (end : End) (walk : ScoredStanding) (told : Bool) → walk.stage.lanes ≡ lanes
+    → ((bs : Bounding) → AreBracketsBy bs (shown_on walk.stage) walk.brackets → IsTrue told ↔ EndsAt bs walk.stage.lanes end walk.stage.cut)
+    → AreBracketsBy bounds (shown lanes walk.stage.cut) walk.brackets → IsTrue told ↔ EndsAt bounds lanes end walk.stage.cut
+test_there bounds lanes end walk told same tells of =
     let cut : List ℕ = walk.stage.cut in
     let there : AreBracketsBy bounds (shown_on walk.stage) walk.brackets = subst (λ (ls : List WholeLane). AreBracketsBy bounds (shown ls cut) walk.brackets) (sym same) of in
-    subst (λ (n : ℕ). TellsSettled bounds lanes n cut told) rows (subst (λ (ls : List WholeLane). TellsSettled bounds ls walk.rows cut told) same (tells bounds there))
+    subst (λ (ls : List WholeLane). IsTrue told ↔ EndsAt bounds ls end cut) same (tells bounds there)
 
 -- the end of the walk
 pub finished : (bounds : Bounding) (lanes : List WholeLane) (r : ℕ) (walk : ScoredStanding) (end : Walk) → walk.stage.lanes ≡ lanes → walk.rows ≡ r
@@ -46,3 +72,44 @@ finished bounds lanes r walk end same rows cut brackets limit chosen inside best
       inside = inside;
       best = best;
     })
+
+-- the end at a settled answer
+pub settled_end : (bounds : Bounding) (lanes : List WholeLane) (r : ℕ) (walk : ScoredStanding) (end : Walk) → AreNarrow bounds → HasRun bounds lanes (Settled r) walk
+    → IsStoppedAt bounds lanes r walk.stage.cut end → IsEnd bounds lanes r end
+settled_end bounds lanes r walk end narrow run stopped =
+    end_at bounds lanes r walk.stage.cut end run.reached stopped (elim run.ended [
+      | inl can ↦
+          let same : can.brackets ≡ end.brackets = one_bracketing bounds (shown lanes walk.stage.cut) can.brackets end.brackets can.bounded stopped.brackets in
+          let inside : ArePicks end.brackets can.answer = subst (λ (bs : List Bracket). ArePicks bs can.answer) same can.inside in
+          let settled : IsSettled end.brackets can.answer (threshold (shown lanes walk.stage.cut)) r =
+          subst (λ (bs : List Bracket). IsSettled bs can.answer (threshold (shown lanes walk.stage.cut)) r) same can.settled in
+          stopped.best can.answer inside (rw stopped.threshold settled)
+      | inr last ↦ whole_settled bounds lanes r walk.stage.cut end (narrow (shown lanes walk.stage.cut)) stopped last.0
+    ])
+
+-- the end at a share that is shown
+module _ (bounds : Bounding) (lanes : List WholeLane) (share : Share) (walk : ScoredStanding) (run : HasRun bounds lanes (Within share) walk) where
+  abbrev floors : Floors
+  floors = floors_of_share share
+
+  pub first_shown : IsWithinBy bounds lanes floors walk.stage.cut → IsFirstWithinBy bounds lanes floors walk.stage.cut
+  first_shown is = first_here (IsWithinBy bounds lanes floors) lanes walk.stage.cut run.reached is
+
+  pub rows_shown : (end : Walk) → IsStoppedAt bounds lanes share.rows walk.stage.cut end → IsWithinBy bounds lanes floors walk.stage.cut
+      → AreWithin end.brackets end.picks end.threshold floors
+  rows_shown end stopped is =
+      let here : ℕ = threshold (shown lanes walk.stage.cut) in
+      let same : is.brackets ≡ end.brackets = one_bracketing bounds (shown lanes walk.stage.cut) is.brackets end.brackets is.bounded stopped.brackets in
+      let theirs : IsChosen end.brackets share.rows is.answer =
+      subst (λ (n : ℕ). IsChosen end.brackets n is.answer) (length-replicate share.rows (record { lower = share.floor; upper = 0xffff_ffff_ffff_ffff }))
+      (subst (λ (bs : List Bracket). IsChosen bs (length floors.spans) is.answer) same is.chosen) in
+      let answer : is.answer ≡ end.picks = one_chosen end.brackets share.rows is.answer end.picks (risen_are_distinct end.brackets stopped.brackets.rise) theirs stopped.chosen in
+      rw stopped.threshold (subst (λ (picks : List ℕ). AreWithin end.brackets picks here floors) answer (subst (λ (bs : List Bracket). AreWithin bs is.answer here floors) same is.within))
+
+  pub never_shown : (IsWithinBy bounds lanes floors walk.stage.cut → ⊥) → (cut : List ℕ) → IsFirstWithinBy bounds lanes floors cut → ⊥
+  never_shown cannot = stops_nowhere (IsWithinBy bounds lanes floors) lanes walk.stage.cut run.reached cannot (λ i next. elim run.ended [
+    | inl is ↦ cannot is
+    | inr last ↦
+        not_all_shown walk.stage i run.stands (subst (λ (ls : List WholeLane). IsNextLane ls walk.stage.cut i) (sym run.lanes_are) next)
+        (subst (λ (ls : List WholeLane). AreAllShown (shown ls walk.stage.cut)) (sym run.lanes_are) last.1)
+  ])

@@ -1,3 +1,4 @@
 -- What the functions of the room promise one another. No public contract rests on it.
 
+pub mod Ends
 pub mod Looked

@@ -4,7 +4,8 @@
 //! The room stands on the lanes, settled answers and the walk with known scores of `ats_bound` and the number of rows
 //! of `ats_impact`. A caller passes the impacts as a [`RandomAccess`]. [`walk`] returns the first cut of the schedule
 //! at which any answer is settled by exact scores, with the brackets of the documents met there, whose two bounds are
-//! the document's score, the chosen answer among them, and the threshold. How scores are summed may change freely.
+//! the document's score, the chosen answer among them, and the threshold. [`walk_within`] returns the same of the first
+//! cut that shows what a shard of a catalog is asked for, if there is one. How scores are summed may change freely.
 //!
 //! ```
 //! use ats_bound::Lane;
@@ -28,4 +29,4 @@ mod walking;
 
 pub use access::RandomAccess;
 pub use memory::OutOfMemory;
-pub use walking::walk;
+pub use walking::{walk, walk_within};
