@@ -12,12 +12,14 @@ use Rattle.ats_commit.specs.Archive.{Archive}
 use Rattle.ats_commit.specs.Root.{header_parts}
 use Rattle.ats_commit.specs.Trees.{dictionary_of}
 use Rattle.ats_bound.specs.declared.bracket.Bracket.{Bracket}
+use Rattle.ats_bound.specs.declared.share.Share.{Share}
 use Rattle.ats_bound.specs.Chosen.{IsChosen}
 use Rattle.ats_bound.specs.Cut.{ShownLane, names}
-use Rattle.ats_bound.specs.Floors.{Floors, IsWithinBy}
+use Rattle.ats_bound.specs.Floors.{Floors, IsWithinBy, floors_of_share}
 use Rattle.ats_bound.specs.Ranked.{docs_of}
 use Rattle.ats_bound.specs.Schedule.{WholeLane, AreBracketsBy, CanSettleBy, IsFirstCut, shown}
 use Rattle.ats_proof.specs.declared.record.Algorithm.{Algorithm}
+use Rattle.ats_proof.specs.declared.record.Algorithm.TheVariants.{Tra}
 use Rattle.ats_proof.specs.Value.{Prefix, Proof, IsProof, fields_of}
 use Rattle.ats_honest.specs.Terms.{AreSpots, AreNeeded, has, place, shown_entry, slot_of}
 use Rattle.ats_honest.specs.Lanes.{bounding, lanes_of, present}
@@ -82,22 +84,35 @@ IsHonestWithin H archive query floors algorithm proof =
     IsHonestBy (IsWithinBy (bounding algorithm (lanes_of archive.texts query)) (lanes_of archive.texts query) floors) (length floors.spans)
     H archive query algorithm proof
 
+-- that of a share shows exact scores
+abbrev pub IsHonestShare : (List ℕ → List ℕ) → Archive → List (List ℕ × ℕ) → Share → Proof → Type 0
+IsHonestShare H archive query share proof = IsHonestWithin H archive query (floors_of_share share) Tra proof
+
 -- how many bytes the fields of a proof have
 abbrev pub length_of : Proof → ℕ
 length_of proof = length (concat (fields_of proof))
 
--- the bytes spell the honest proof
-pub record IsProved (H : List ℕ → List ℕ) (archive : Archive) (query : List (List ℕ × ℕ)) (r : ℕ) (algorithm : Algorithm) (bytes : List ℕ) : Type 0 where
+-- the bytes spell a proof that is honest in this sense
+pub record IsProvedBy (Honest : Proof → Type 0) (bytes : List ℕ) : Type 0 where
   pub proof : Proof
-  pub honest : IsHonest H archive query r algorithm proof
+  pub honest : Honest proof
   pub spells : IsProof bytes proof
 
--- the honest proof has this many bytes, and they are more than the limit
-pub record IsTooLong (H : List ℕ → List ℕ) (archive : Archive) (query : List (List ℕ × ℕ)) (r : ℕ) (algorithm : Algorithm) (limit bytes : ℕ) : Type 0 where
+-- such a proof has this many bytes, and they are more than the limit
+pub record IsTooLongBy (Honest : Proof → Type 0) (limit bytes : ℕ) : Type 0 where
   pub proof : Proof
-  pub honest : IsHonest H archive query r algorithm proof
+  pub honest : Honest proof
   pub bytes_are : bytes ≡ length_of proof
   pub beyond : limit < bytes
+
+abbrev pub IsProved : (List ℕ → List ℕ) → Archive → List (List ℕ × ℕ) → ℕ → Algorithm → List ℕ → Type 0
+IsProved H archive query r algorithm bytes = IsProvedBy (IsHonest H archive query r algorithm) bytes
+
+abbrev pub IsTooLong : (List ℕ → List ℕ) → Archive → List (List ℕ × ℕ) → ℕ → Algorithm → ℕ → ℕ → Type 0
+IsTooLong H archive query r algorithm limit bytes = IsTooLongBy (IsHonest H archive query r algorithm) limit bytes
+
+abbrev pub IsShareProved : (List ℕ → List ℕ) → Archive → List (List ℕ × ℕ) → Share → List ℕ → Type 0
+IsShareProved H archive query share bytes = IsProvedBy (IsHonestShare H archive query share) bytes
 
 -- The proof that shows a cut, with the documents that it meets, and has no answer.
 pub record IsCutShown (H : List ℕ → List ℕ) (archive : Archive) (query : List (List ℕ × ℕ)) (algorithm : Algorithm) (cut : List ℕ) (proof : Proof) : Type 0 where

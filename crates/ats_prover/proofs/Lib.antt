@@ -4,5 +4,6 @@ mod KeptDigests
 mod Fronts
 mod MetLeaves
 mod Asked
+mod Ended
 mod Finished
 mod Named

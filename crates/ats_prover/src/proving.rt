@@ -1,15 +1,16 @@
 //! The proof of a query's best documents.
 
-ghost use Rattle.std.specs.Prelude.{◌≡◌, ◌≤◌, ◌<◌, ◌^◌, ℕ, List, length, map, IfOk, IfErr, OnOk};
+ghost use Rattle.std.specs.Prelude.{◌≡◌, ◌≤◌, ◌<◌, ◌^◌, ℕ, List, length, map, IfOk, IfErr, IfSome, MatchBool, MatchOption, OnOk};
 ghost use Rattle.ats_commit.specs.Own.{AreTexts};
-ghost use Rattle.ats_bound.specs.Schedule.{IsCut, shown, whole_lanes};
+ghost use Rattle.ats_bound.specs.Ranked.{docs_of};
+ghost use Rattle.ats_bound.specs.Schedule.{AreBracketsBy, IsCut, shown, whole_lanes};
 ghost use Rattle.ats_proof.specs.declared.record.Algorithm.TheVariants.{Tnra};
 ghost use Rattle.ats_proof.specs.Value.{Proof};
 ghost use Rattle.ats_prover.specs.declared.fault.ProveFault.TheVariants.{OutOfMemory as MemoryWanted};
-ghost use Rattle.ats_honest.specs.Lanes.{lanes_of};
-ghost use Rattle.ats_honest.specs.Honest.{AreMet, IsCutProved, IsCutShown, IsHonest, IsProved, length_of};
+ghost use Rattle.ats_honest.specs.Lanes.{bounding, lanes_of};
+ghost use Rattle.ats_honest.specs.Honest.{AreMet, IsCutProved, IsCutShown, IsHonest, IsHonestShare, IsProved, IsShareProved, length_of};
 ghost use Rattle.ats_prover.specs.Inner.Found.{AreFound};
-ghost use Rattle.ats_prover.specs.Fault.{IsAnswerWithin, IsCutFault, IsFault};
+ghost use Rattle.ats_prover.specs.Fault.{IsAnswerWithin, IsCutFault, IsFault, IsFoundWithin, IsShareFault};
 ghost use Rattle.ats_prover.specs.Inner.Writing.{IsCutWritten, IsShownWith, IsWritten};
 
 use crate::answer::{documents, write_answer};
@@ -20,8 +21,9 @@ use crate::found::{QueryTerms, query_terms};
 use crate::met::met_documents;
 use crate::prefixes::write_lists;
 use crate::shown::keep_positions;
-use crate::walking::walk;
+use crate::walking::{walk, walk_share};
 use ats_base::Bytes;
+use ats_bound::{Share, Walk};
 use ats_grammar::MAX_PROOF;
 use ats_hash::HashKind;
 use ats_impact::Top;
@@ -111,6 +113,42 @@ fn write_shown<H: HashKind>(
     )
 }
 
+// Writes the whole proof of the end of a walk.
+fn write_end<H: HashKind>(
+    alloc: Global,
+    writer: &mut ProofWriter,
+    index: &Index<H>,
+    query: &Query,
+    terms: &QueryTerms<'_>,
+    end: &Walk,
+    algorithm: Algorithm,
+) -> Result<(), OutOfMemory>
+    requires terms { AreFound H.hash index.now query.now terms.now.spots.items terms.now.present
+        (whole_lanes terms.now.lists.lanes.items) (map (λ n. n.now) terms.now.lists.digests.items) }
+    requires cut { IsCut (lanes_of index.now.texts query.now) end.now.cut }
+    requires brackets { AreBracketsBy (bounding algorithm (lanes_of index.now.texts query.now))
+        (shown (lanes_of index.now.texts query.now) end.now.cut) end.now.brackets }
+    requires rows { length end.now.picks ≤ 1000 }
+    requires space { writer.old.asked ≡ 0 }
+    ensures written { OnOk result (IsWritten
+        (IsShownWith H.hash index.now query.now algorithm end.now.cut (docs_of end.now.brackets) end.now.picks)
+        writer.old writer.new) }
+    ensures texts { OnOk result (AreTexts index.now.texts) }
+{
+    let met = documents(alloc, end.brackets.as_slice())?;
+    write_shown(
+        alloc,
+        writer,
+        index,
+        query,
+        terms,
+        &met,
+        end.cut.as_slice(),
+        end.picks.as_slice(),
+        algorithm,
+    )
+}
+
 // Writes the whole honest proof.
 fn write_proof<H: HashKind>(
     alloc: Global,
@@ -138,18 +176,30 @@ fn write_proof<H: HashKind>(
         top,
         algorithm,
     )?;
-    let met = documents(alloc, end.brackets.as_slice())?;
-    write_shown(
-        alloc,
-        writer,
-        index,
-        query,
-        &terms,
-        &met,
-        end.cut.as_slice(),
-        end.picks.as_slice(),
-        algorithm,
-    )
+    write_end(alloc, writer, index, query, &terms, &end, algorithm)
+}
+
+// Writes the whole honest proof of a share, and returns whether some cut shows the share.
+fn write_share<H: HashKind>(
+    alloc: Global,
+    writer: &mut ProofWriter,
+    index: &Index<H>,
+    query: &Query,
+    share: Share,
+) -> Result<bool, OutOfMemory>
+    requires rows { share.rows ≤ 1000 }
+    requires space { writer.old.asked ≡ 0 }
+    ensures { IfOk result (λ shown. MatchBool shown
+        (IsWritten (IsHonestShare H.hash index.now query.now share) writer.old writer.new)
+        ((proof : Proof) → ¬ IsHonestShare H.hash index.now query.now share proof)) }
+{
+    let terms = query_terms(alloc, index, query)?;
+    let found = walk_share(alloc, index, &terms.present, &terms.lists.lanes, share)?;
+    let Some(end) = found else {
+        return Ok(false);
+    };
+    write_end(alloc, writer, index, query, &terms, &end, Algorithm::Tra)?;
+    Ok(true)
 }
 
 // Writes the whole proof of a cut, with no answer.
@@ -220,6 +270,36 @@ pub fn prove_within<H: HashKind>(
     write_proof(alloc, &mut writer, index, query, top, algorithm)?;
     match writer.finish() {
         Ok(bytes) => Ok(bytes),
+        Err(length) => Err(ProveFault::ProofTooLong { length }),
+    }
+}
+
+/// The honest proof by [`Algorithm::Tra`] of all that is asked of a shard of a catalog, of at most `limit` bytes; `None`
+/// if no cut shows it, as fewer documents than are asked score at least the floor, or more score above it.
+pub fn prove_share_within<H: HashKind>(
+    alloc: Global,
+    index: &Index<H>,
+    query: &Query,
+    share: Share,
+    limit: u64,
+) -> Result<Option<Bytes>, ProveFault>
+    requires rows { share.rows ≤ 1000 }
+    requires limit { limit ≤ 2 ^ 26 }
+    ensures ok { IfOk result (λ found. MatchOption found
+        ((proof : Proof) → ¬ IsHonestShare H.hash index.now query.now share proof)
+        (IsShareProved H.hash index.now query.now share)) }
+    ensures within { IfOk result (λ found. IfSome found (λ bytes. length bytes ≤ limit)) }
+    ensures err { IfErr result (IsShareFault H.hash index.now query.now share limit) }
+    ensures size { (proof : Proof) → IsHonestShare H.hash index.now query.now share proof
+        → IsFoundWithin limit (length_of proof) result }
+{
+    records_are_joined();
+    let mut writer = ProofWriter::new(alloc, limit);
+    if !write_share(alloc, &mut writer, index, query, share)? {
+        return Ok(None);
+    }
+    match writer.finish() {
+        Ok(bytes) => Ok(Some(bytes)),
         Err(length) => Err(ProveFault::ProofTooLong { length }),
     }
 }
