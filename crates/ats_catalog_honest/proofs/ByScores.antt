@@ -1,10 +1,10 @@
 -- By TRA a shard need only know how many rows it is asked for, and the last edge.
-use Rattle.std.proofs.Common.{◌≡◌, ◌<◌, ◌≤◌, ◌-◌, ◌^◌, ◌∙◌, ◌↔◌, ℕ, List, [], length, get_or, sym, refl, subst, arith}
+use Rattle.std.proofs.Common.{◌≡◌, ◌<◌, ◌≤◌, ◌∙◌, ◌↔◌, ℕ, List, [], length, get_or, sym, refl, subst, arith}
 use Rattle.std.proofs.lemmas.List.{get_or-replicate, length-map, length-replicate}
 use Rattle.ats_terms.specs.Query.{IsQuery}
 use Rattle.ats_commit.specs.Archive.{Archive, archive_of}
 use Rattle.ats_bound.specs.Chosen.{IsChosen}
-use Rattle.ats_bound.specs.Floors.{Floors, IsInSpan, IsWithinBy, Span, span_at}
+use Rattle.ats_bound.specs.Floors.{Floors, IsInSpan, IsWithinBy, Span, floors_of_share, span_at}
 use Rattle.ats_bound.specs.Schedule.{Bounding, IsCut, IsFirstCut, IsScheduled, WholeLane}
 use Rattle.ats_bound.specs.Settled.{row}
 use Rattle.ats_bound.proofs.Public.{chosen_are_picks, have_entries, scheduled_is_cut}
@@ -17,7 +17,7 @@ use Rattle.ats_honest.proofs.Public.{lanes_are_whole}
 use Rattle.ats_catalog_bytes.specs.Catalog.{IsCatalog, archive_at}
 use Rattle.ats_catalog_check.specs.Headline.{score_in, size_in}
 use Rattle.ats_catalog_honest.specs.Ranking.{IsRankedBy, Ranked, shares_of}
-use Rattle.ats_catalog_honest.specs.Shares.{Shares, floors_by_scores, floors_of, rows_from, span_of}
+use Rattle.ats_catalog_honest.specs.Shares.{Shares, floors_of, rows_from, share_of, span_of}
 use Rattle.ats_catalog_honest.proofs.Exact.{exact_scores, scores_fit}
 use Rattle.ats_catalog_honest.proofs.Exists.{ranking_fits}
 use Rattle.ats_catalog_honest.proofs.Reached.{rows_in_spans, span_floor}
@@ -51,7 +51,7 @@ module _ (H : List ℕ → List ℕ) (catalog : List Archive) (query : List (Lis
   edged = floors_of shares shard
 
   abbrev plain : Floors
-  plain = floors_by_scores shares shard
+  plain = floors_of_share (share_of shares shard)
 
   abbrev rows : ℕ
   rows = length (rows_from shard 0 shares.owners)
@@ -63,10 +63,10 @@ module _ (H : List ℕ → List ℕ) (catalog : List Archive) (query : List (Lis
   edged_size = length-map (rows_from shard 0 shares.owners) (span_of shares.edges)
 
   sizes : length edged.spans ≡ length plain.spans
-  sizes = edged_size ∙ sym (length-replicate rows (record { lower = plain.floor; upper = 2 ^ 64 - 1 }))
+  sizes = edged_size ∙ sym (length-replicate rows (record { lower = plain.floor; upper = 0xffff_ffff_ffff_ffff }))
 
-  plain_at : (k : ℕ) → k < rows → span_at plain.spans k ≡ record { lower = plain.floor; upper = 2 ^ 64 - 1 }
-  plain_at k inside = get_or-replicate rows k (record { lower = plain.floor; upper = 2 ^ 64 - 1 }) (record { lower = 0; upper = 0 }) inside
+  plain_at : (k : ℕ) → k < rows → span_at plain.spans k ≡ record { lower = plain.floor; upper = 0xffff_ffff_ffff_ffff }
+  plain_at k inside = get_or-replicate rows k (record { lower = plain.floor; upper = 0xffff_ffff_ffff_ffff }) (record { lower = 0; upper = 0 }) inside
 
   module _ (cut : List ℕ) (is_cut : IsCut lanes cut) where
     to_plain : IsWithinBy bounds lanes edged cut → IsWithinBy bounds lanes plain cut
@@ -108,7 +108,7 @@ module _ (H : List ℕ → List ℕ) (catalog : List Archive) (query : List (Lis
             rows = rows_in_spans (size_in catalog) (score_in catalog query) all ranked shard _ w.brackets exact (length edged.spans) w.answer chosen by r
                 (ranking_fits catalog query is asked all ranked) refl w.within.unmet many
                 (λ k inside.
-                let in_span : IsInSpan (record { lower = plain.floor; upper = 2 ^ 64 - 1 }) (row w.brackets w.answer k) =
+                let in_span : IsInSpan (record { lower = plain.floor; upper = 0xffff_ffff_ffff_ffff }) (row w.brackets w.answer k) =
                 subst (λ (s : Span). IsInSpan s (row w.brackets w.answer k)) (plain_at k (omega (arith, inside, many, edged_size))) (w.within.rows k inside) in
                 in_span.least);
             others = w.within.others;

@@ -1,7 +1,8 @@
 -- How the rows of one answer are shared out among shards: each row has its span, and a shard is asked for the rows that are
 -- its own.
-use Rattle.std.specs.Prelude.{◌≡◌, ◌⊎◌, ◌<◌, ◌≤◌, ◌+◌, ◌-◌, ◌^◌, ◌==◌, ℕ, List, [], ◌∷◌, length, map, replicate, slice_index_or, if◌then◌else◌}
+use Rattle.std.specs.Prelude.{◌≡◌, ◌⊎◌, ◌<◌, ◌≤◌, ◌+◌, ◌==◌, ℕ, List, [], ◌∷◌, length, map, slice_index_or, if◌then◌else◌}
 use Rattle.std.specs.List.{All}
+use Rattle.ats_bound.specs.declared.share.Share.{Share}
 use Rattle.ats_bound.specs.Floors.{Floors, Span, span_at}
 use Rattle.ats_impact.specs.declared.rank.Row.{Row}
 use Rattle.ats_catalog_check.specs.Merge.{Shown, shown_at}
@@ -32,12 +33,9 @@ floors_of shares shard = record {
   floor = shares.edges (length shares.owners);
 }
 
--- the same without the edges between rows: as many rows, of which none is below the last edge, and nothing else above it
-abbrev pub floors_by_scores : Shares → ℕ → Floors
-floors_by_scores shares shard = record {
-  spans = replicate (length (rows_from shard 0 shares.owners)) (record { lower = shares.edges (length shares.owners); upper = 2 ^ 64 - 1 });
-  floor = shares.edges (length shares.owners);
-}
+-- the same without the edges between rows: how many rows, and the last edge
+abbrev pub share_of : Shares → ℕ → Share
+share_of shares shard = record { rows = length (rows_from shard 0 shares.owners); floor = shares.edges (length shares.owners) }
 
 -- a row with its bounds in order, within its span
 pub record IsRowIn (span : Span) (row : Row) : Type 0 where

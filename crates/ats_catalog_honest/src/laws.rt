@@ -9,7 +9,7 @@ ghost use Rattle.ats_proof.specs.declared.record.Algorithm.{Algorithm};
 ghost use Rattle.ats_proof.specs.declared.record.Algorithm.TheVariants.{Tra};
 ghost use Rattle.ats_proof.specs.Value.{Proof};
 ghost use Rattle.ats_client.specs.Accepts.{AcceptsShown};
-ghost use Rattle.ats_honest.specs.Honest.{IsHonestWithin};
+ghost use Rattle.ats_honest.specs.Honest.{IsHonestShare, IsHonestWithin};
 ghost use Rattle.ats_catalog_bytes.specs.Catalog.{IsCatalog, archive_at, catalog_root};
 ghost use Rattle.ats_catalog_bytes.specs.Value.{Framed, IsCatalogProof};
 ghost use Rattle.ats_catalog_check.specs.Accepts.{AcceptsCatalog, AreProofs, shown_of};
@@ -18,7 +18,7 @@ ghost use Rattle.ats_catalog_check.specs.Merge.{Shown, IsSettled};
 ghost use Rattle.ats_catalog_check.specs.Strings.{catalog_collision};
 ghost use Rattle.ats_catalog_honest.specs.Honest.{AreFramesOf, AreHonestProofs, AreProofsOfShares, IsHonestFile, IsProvedCatalog};
 ghost use Rattle.ats_catalog_honest.specs.Ranking.{IsRankedBy, Ranked, shares_of};
-ghost use Rattle.ats_catalog_honest.specs.Shares.{AreEdges, AreShared, Shares, ShowsWithin, floors_by_scores, floors_of};
+ghost use Rattle.ats_catalog_honest.specs.Shares.{AreEdges, AreShared, Shares, ShowsWithin, floors_of, share_of};
 
 use ats_hash::HashKind;
 
@@ -49,8 +49,7 @@ pub fn scores_need_no_edges<H: HashKind>()
         → IsCatalog catalog → IsQuery query → IsRankedBy (size_in catalog) (score_in catalog query) ranking
         → shard < length catalog
         → (IsHonestWithin H.hash (archive_at catalog shard) query (floors_of (shares_of by r ranking) shard) Tra proof
-        ↔ IsHonestWithin H.hash (archive_at catalog shard) query (floors_by_scores (shares_of by r ranking) shard)
-        Tra proof) }
+        ↔ IsHonestShare H.hash (archive_at catalog shard) query (share_of (shares_of by r ranking) shard) proof) }
 {}
 
 /// If the shards of a file have the roots of a catalog, and bytes that spell the honest proofs of their shares of some
