@@ -1,13 +1,14 @@
-//! A reply that no command asks for in this way, and proofs at a limit.
+//! A reply that no command asks for in this way, proofs at a limit, and proofs of shares.
 
 ghost use Rattle.std.specs.Prelude.{◌≤◌, ◌^◌};
 
 use ats_base::{Bytes, Link, MemLink};
+use ats_bound::Share;
 use ats_hash::{Hash32, HashKind, Sha};
 use ats_impact::Top;
 use ats_index::Index;
 use ats_proof::Algorithm;
-use ats_prover::{ProveFault, prove, prove_within};
+use ats_prover::{ProveFault, prove, prove_share_within, prove_within};
 use ats_terms::{Query, QueryFault};
 use ats_tests::foxes;
 use ats_wire::{AskFault, ask_once};
@@ -103,5 +104,37 @@ fn honest_proof_fits<H: Hash32>(
 fn a_limit_refuses_longer_proofs(rt: HostRuntime) -> Result<(), Fail> {
     assert!(rt; honest_proof_fits::<Sha>(rt.alloc(), Algorithm::Tnra, 365)?);
     assert!(rt; honest_proof_fits::<Sha>(rt.alloc(), Algorithm::Tra, 751)?);
+    Ok(())
+}
+
+// The length of the proof of a share of `red hen`, or 0 if no cut shows it.
+fn share_length<H: HashKind>(
+    alloc: Global,
+    index: &Index<H>,
+    rows: u32,
+    floor: u64,
+) -> Result<usize, Fail>
+    requires { rows ≤ 1000 }
+{
+    let query = query_of(alloc, "red hen")?;
+    let proof = prove_share_within(alloc, index, &query, Share { rows, floor }, 67_108_864)?;
+    Ok(proof.map_or(0, |bytes| bytes.len()))
+}
+
+// Document 1 scores 13,014, and the others 6,378.
+fn shares_have_lengths<H: Hash32>(alloc: Global) -> Result<bool, Fail> {
+    let index = Index::<H>::build_plain(alloc, foxes(alloc)?)?;
+    Ok(
+        share_length(alloc, &index, 0, 13_014)? == 747
+            && share_length(alloc, &index, 1, 13_014)? == 751
+            && share_length(alloc, &index, 2, 6_378)? == 755
+            && share_length(alloc, &index, 0, 13_013)? == 0
+            && share_length(alloc, &index, 1, 13_015)? == 0,
+    )
+}
+
+#[test]
+fn a_share_is_shown_or_reported_missing(rt: HostRuntime) -> Result<(), Fail> {
+    assert!(rt; shares_have_lengths::<Sha>(rt.alloc())?);
     Ok(())
 }
