@@ -37,20 +37,23 @@ KILLS, KILLS_AS_MOVED = 20, 6
 AS_MOVED = -1.0  # the moment at which a run moves files
 MONTHS = ("2024-05-31", "2024-06-30", "2024-07-31")
 CHOICE = ("--exclude", "*.html", "--include", "*.json")
-THIRD = ("--date", MONTHS[2], *CHOICE)
+THIRD = ("--date", MONTHS[2], *CHOICE)  # the words of the third month
 MINISIGN = ("minisign", "minisign -G -W -p {0}.pub -s {0}", ".minisig", "--minisign", "{0}.pub")
 SSH = ("ssh-keygen", "ssh-keygen -q -t ed25519 -N '' -f {0} && echo me@example.org $(cat {0}.pub) >{0}.signers", ".sig", "--signers", "{0}.signers")
 
 
 def real_files(count: int) -> Iterator[tuple[str, bytes]]:
-    """Files of packages, by name, as they are after unpacking."""
-    for place in PLACES:
-        for path in sorted(Path(place).rglob("*")):
-            if count and path.is_file() and not path.is_symlink():
-                data = gzip.decompress(path.read_bytes()) if path.suffix == ".gz" else path.read_bytes()
-                if len(data) <= MOST:
-                    count -= 1
-                    yield str(path.relative_to("/")).removesuffix(".gz"), data
+    """Files of packages of all kinds, in any order, by name; those that are packed, as they are after unpacking."""
+    paths = [path for place in PLACES for path in sorted(Path(place).rglob("*"))]
+    random.shuffle(paths)
+    for path in paths:
+        if count and path.is_file() and not path.is_symlink():
+            name, data = str(path.relative_to("/")), path.read_bytes()
+            if path.suffix == ".gz":
+                name, data = "unpacked/" + name.removesuffix(".gz"), gzip.decompress(data)
+            if len(data) <= MOST:
+                count -= 1
+                yield name, data
 
 
 def digest_of(*folders: Path) -> str:
@@ -89,6 +92,15 @@ class Place(NamedTuple):
         """A run in a session of its own."""
         return subprocess.Popen(list(map(str, [*self.words, *more])), stdout=subprocess.DEVNULL, stderr=said,
                                 start_new_session=True)
+
+    def grow(self, date: str) -> tuple[Ended, float]:
+        """Publishes real files of which some are taken, and says how many seconds that takes."""
+        began = time.monotonic()
+        ended = self.publish("--date", date, *CHOICE)
+        seconds = time.monotonic() - began
+        print(f"    {seconds:.1f} s: {ended.printed.decode().splitlines()[:2]}", flush=True)
+        self.tries.check(f"documents are published on {date}", ended.status == 0 and b" added to " in ended.printed, ended)
+        return ended, seconds
 
     def put(self, name: str, data: bytes) -> None:
         path = self.files / name
@@ -265,11 +277,10 @@ def months(tries: Tries, files: list[tuple[str, bytes]]) -> Place:
         for name, data in files[cut[month]:cut[month + 1]]:
             one.put(name, data)
         if month < 2:
-            began = time.monotonic()
-            ended = one.publish("--date", date, *CHOICE)
+            ended, _ = one.grow(date)
             roots.append(root_of(ended))
-            print(f"    {time.monotonic() - began:.1f} s: {ended.printed.decode().splitlines()[:2]}", flush=True)
-            tries.check(f"{cut[month + 1]} real files, month {month + 1}", ended.status == 0 and one.follow("real.log", *(["--root", roots[0]] if month == 0 else [])).status == 0)
+            followed = one.follow("real.log", *(["--root", roots[0]] if month == 0 else []))
+            tries.check(f"{cut[month + 1]} real files, month {month + 1}", followed.status == 0, followed)
     return one
 
 
@@ -285,11 +296,8 @@ def copied(one: Place, name: str) -> Place:
 def third_month(tries: Tries, one: Place) -> tuple[float, str]:
     """How many seconds a whole run takes, and what is there after it."""
     whole = copied(one, "whole")
-    began = time.monotonic()
-    ended = whole.publish(*THIRD)
-    seconds = time.monotonic() - began
-    tries.check("the third month", ended.status == 0 and whole.follow("whole.log", "--trust-first").status == 0)
-    print(f"    {seconds:.1f} s: {ended.printed.decode().splitlines()[:2]}", flush=True)
+    _, seconds = whole.grow(MONTHS[2])
+    tries.check("the third month", whole.follow("whole.log", "--trust-first").status == 0)
     return seconds, content_of(whole.public, whole.state)
 
 
@@ -304,7 +312,7 @@ def killed(tries: Tries, one: Place) -> None:
             see_killed(tries, other, "as it moves files" if moment == AS_MOVED else f"after {moment:.1f} s", wanted)
         else:
             late += 1
-            moments.append(moment if moment == AS_MOVED else random.random() * seconds)
+            moments.append(moment if moment == AS_MOVED else random.random() * moment)
     tries.check(f"{KILLS + KILLS_AS_MOVED} runs are killed, apart from {late} that ended before", not moments)
 
 
