@@ -11,6 +11,7 @@ is missing or this is not root, and `N passed, M failed`. Ends with status 0 if 
 import contextlib
 import gzip
 import hashlib
+import itertools
 import os
 import random
 import re
@@ -33,11 +34,25 @@ import archive_files  # noqa: E402
 PUBLISH = HOME / "owner" / "publish"
 PLACES = ("/usr/share/doc", "/usr/share/man", "/usr/share/perl", "/usr/share/info")
 MOST = 12_000  # bytes of one file, so that the whole fits one archive
-KILLS, KILLS_AS_MOVED = 20, 6
-AS_MOVED = -1.0  # the moment at which a run moves files
+KILLS = 20
 MONTHS = ("2024-05-31", "2024-06-30", "2024-07-31")
 CHOICE = ("--exclude", "*.html", "--include", "*.json")
 THIRD = ("--date", MONTHS[2], *CHOICE)  # the words of the third month
+# Runs a script, and kills it before its change of a name in a folder with this number.
+COUNTED = """
+import os, runpy, signal, sys
+left, script = int(sys.argv[1]), sys.argv[2]
+def count(event, _):
+    global left
+    if event in ("os.mkdir", "os.rename", "os.remove", "os.rmdir"):
+        left -= 1
+        if left == 0:
+            os.kill(os.getpid(), signal.SIGKILL)
+sys.argv[:2] = []
+sys.path.insert(0, os.path.dirname(script))
+sys.addaudithook(count)
+runpy.run_path(script, run_name="__main__")
+"""
 MINISIGN = ("minisign", "minisign -G -W -p {0}.pub -s {0}", ".minisig", "--minisign", "{0}.pub")
 SSH = ("ssh-keygen", "ssh-keygen -q -t ed25519 -N '' -f {0} && echo me@example.org $(cat {0}.pub) >{0}.signers", ".sig", "--signers", "{0}.signers")
 
@@ -152,10 +167,6 @@ def first_steps(tries: Tries) -> None:
     tries.check("the host's folder has the root that the program serves", tries.ask("root", next(one.state.glob(f"{followed.printed.decode().strip()}.index"))).printed == followed.printed)
     shutil.rmtree(one.public / f"{root_of(ended)}-1")
     tries.check("a folder that its owner removed stays away", one.publish().status == 0 and not (one.public / f"{root_of(ended)}-1").exists())
-    for part in ("own", "public"):
-        (one.state / "ready" / part).mkdir(parents=True)
-        ended = one.publish()
-        tries.check(f"a run after one that was killed as it removed all but {part}", ended.status == 0 and not (one.state / "ready").exists(), ended)
 
 
 def waits(tries: Tries) -> None:
@@ -266,6 +277,47 @@ def workers_end(tries: Tries) -> None:
     tries.check("and the next run goes on", one.publish().status == 0)
 
 
+def copied(one: Place, name: str) -> Place:
+    """The same place, as it is."""
+    other = Place(one.tries, one.files, one.tries.folder / name / "public")
+    shutil.rmtree(other.public.parent, ignore_errors=True)
+    for source, target in ((one.public, other.public), (one.state, other.state)):
+        shutil.copytree(source, target)
+    return other
+
+
+def see_killed(tries: Tries, other: Place, where: str, wanted: str) -> None:
+    """Of a run that was killed over a place where the log of the same name has two months."""
+    shutil.copy(tries.folder / f"{other.files.parent.name}.log", tries.folder / "killed.log")
+    read = other.follow("killed.log")
+    number = 2 + (b"publication: 3" in tries.read("killed.log"))
+    tries.check(f"killed {where}: readers have publication {number}", read.status == 0)
+    ended = other.publish(*THIRD)
+    same = ended.status == 0 and content_of(other.public, other.state) == wanted
+    tries.check("  the next run goes on, to the same bytes", same, ended)
+
+
+def killed_at_each_change(tries: Tries) -> None:
+    """Runs of which each is killed before another change of the names in folders."""
+    one = place(tries, "changes")
+    for number, date in enumerate(MONTHS[:2]):
+        one.put(f"{number}.txt", b"red fox")
+        root = root_of(one.publish("--date", date))
+        one.follow("changes.log", *(["--root", root] if number == 0 else []))
+    one.put("2.txt", b"red hen")
+    whole = copied(one, "whole")
+    whole.publish(*THIRD)
+    wanted = content_of(whole.public, whole.state)
+    for change in itertools.count(1):
+        other = copied(one, "killed")
+        counted = [sys.executable, "-B", "-c", COUNTED, change, *other.words[1:], *THIRD]
+        ended = tries.run(*counted, TMPDIR=str(other.public.parent))
+        if ended.status != -signal.SIGKILL:
+            break
+        see_killed(tries, other, f"before change {change}", wanted)
+    tries.check(f"a run with fewer than {change} changes ends", ended.status == 0 and change > 20, ended)
+
+
 # Real files
 
 
@@ -284,15 +336,6 @@ def months(tries: Tries, files: list[tuple[str, bytes]]) -> Place:
     return one
 
 
-def copied(one: Place, name: str) -> Place:
-    """The same place, as it is."""
-    other = Place(one.tries, one.files, one.tries.folder / name / "public")
-    shutil.rmtree(other.public.parent, ignore_errors=True)
-    for source, target in ((one.public, other.public), (one.state, other.state)):
-        shutil.copytree(source, target)
-    return other
-
-
 def third_month(tries: Tries, one: Place) -> tuple[float, str]:
     """How many seconds a whole run takes, and what is there after it."""
     whole = copied(one, "whole")
@@ -303,44 +346,26 @@ def third_month(tries: Tries, one: Place) -> tuple[float, str]:
 
 def killed(tries: Tries, one: Place) -> None:
     """Runs that are killed: readers have the old archive or the new one, and the next run goes on. A run that ended before it
-    was killed is no trial, and another moment takes the place of its own."""
+    was killed is no trial, and an earlier moment takes the place of its own."""
     seconds, wanted = third_month(tries, one)
-    moments, late = [AS_MOVED] * KILLS_AS_MOVED + [random.random() * seconds for _ in range(KILLS)], 0
+    moments, late = [random.random() * seconds for _ in range(KILLS)], 0
     while moments and late <= KILLS:
         moment, other = moments.pop(), copied(one, "killed")
         if is_killed(other, moment, with_program=len(moments) % 2 == 1):
-            see_killed(tries, other, "as it moves files" if moment == AS_MOVED else f"after {moment:.1f} s", wanted)
+            see_killed(tries, other, f"after {moment:.1f} s", wanted)
         else:
             late += 1
-            moments.append(moment if moment == AS_MOVED else random.random() * moment)
-    tries.check(f"{KILLS + KILLS_AS_MOVED} runs are killed, apart from {late} that ended before", not moments)
+            moments.append(random.random() * moment)
+    tries.check(f"{KILLS} runs are killed, apart from {late} that ended before", not moments)
 
 
 def is_killed(other: Place, moment: float, with_program: bool) -> bool:
-    """Starts a run and kills it at this moment, with the program that it started or without. Says whether it still ran."""
+    """Starts a run and kills it after some seconds, with the program that it started or without. Says whether it still ran."""
     run = other.start(subprocess.DEVNULL, *THIRD)
-    until(moment, other, run)
+    time.sleep(moment)
     with contextlib.suppress(ProcessLookupError):  # it may have ended before
         (os.killpg if with_program else os.kill)(run.pid, signal.SIGKILL)
     return run.wait() == -signal.SIGKILL
-
-
-def see_killed(tries: Tries, other: Place, where: str, wanted: str) -> None:
-    shutil.copy(tries.folder / "real.log", tries.folder / "killed.log")
-    read = other.follow("killed.log")
-    number = 2 + (b"publication: 3" in tries.read("killed.log"))
-    tries.check(f"killed {where}: readers have publication {number}", read.status == 0)
-    ended = other.publish(*THIRD)
-    same = ended.status == 0 and content_of(other.public, other.state) == wanted
-    tries.check("  the next run goes on, to the same bytes", same, ended)
-
-
-def until(moment: float, other: Place, run: subprocess.Popen) -> None:
-    """Waits for a time, or until the run begins to move files."""
-    if moment != AS_MOVED:
-        time.sleep(moment)
-    while moment == AS_MOVED and run.poll() is None and not (other.state / "ready").exists():
-        pass
 
 
 def full_disk(tries: Tries, one: Place) -> None:
@@ -380,7 +405,7 @@ def main() -> int:
     random.seed(seed)
     with tempfile.TemporaryDirectory() as folder:
         tries = Tries(Path(folder), program)
-        for each in (first_steps, waits, refusals, signatures, shards, workers_end):
+        for each in (first_steps, waits, refusals, signatures, shards, workers_end, killed_at_each_change):
             each(tries)
         files = list(real_files(count))
         print(f"    {len(files)} real files of {sum(len(data) for _, data in files):,} bytes, seed {seed}", flush=True)
