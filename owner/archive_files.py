@@ -114,8 +114,8 @@ def store(data: bytes, path: str) -> None:
         storing.add(path, data)
 
 
-def is_taken(lock: int) -> bool:
-    """Takes the lock of a file that is open, unless another run has it."""
+def took(lock: int) -> bool:
+    """Takes the lock of a file that is open, unless another run has it. Says whether it did."""
     try:
         fcntl.flock(lock, fcntl.LOCK_EX | fcntl.LOCK_NB)
     except BlockingIOError:
@@ -128,7 +128,7 @@ def alone_in(folder: str) -> Iterator[None]:
     """Lets one run at a time work in the folder: the others say that they wait, and do so."""
     held = os.open(folder or ".", os.O_RDONLY | os.O_CLOEXEC)
     try:
-        if not is_taken(held):
+        if not took(held):
             say(f"waiting: another run works in {shown(folder or '.')}")
             fcntl.flock(held, fcntl.LOCK_EX)
         yield
