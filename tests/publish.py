@@ -277,6 +277,23 @@ def workers_end(tries: Tries) -> None:
     tries.check("and the next run goes on", one.publish().status == 0)
 
 
+def program_is_left(tries: Tries) -> None:
+    """A run that is killed alone, whose program then makes one file after the other where the run has its files."""
+    one, program = place(tries, "left"), tries.folder / "left" / "program"
+    one.put("a.txt", b"red fox")
+    program.write_text('#!/bin/sh\nwhile : >"$2.$((made += 1))"; do :; done\n')
+    program.chmod(0o755)
+    run = one.start(subprocess.DEVNULL, "--program", program)
+    wait_until(lambda: len(list(one.state.rglob("*.json.*"))) > 100)
+    run.kill()
+    run.wait()
+    ended = one.publish()
+    tries.check("a run after one whose program still writes", ended.status == 0, ended)
+    tries.check("which then ends", wait_until(lambda: not working(run.pid)))
+    with contextlib.suppress(ProcessLookupError):
+        os.killpg(run.pid, signal.SIGKILL)
+
+
 def copied(one: Place, name: str) -> Place:
     """The same place, as it is."""
     other = Place(one.tries, one.files, one.tries.folder / name / "public")
@@ -405,7 +422,7 @@ def main() -> int:
     random.seed(seed)
     with tempfile.TemporaryDirectory() as folder:
         tries = Tries(Path(folder), program)
-        for each in (first_steps, waits, refusals, signatures, shards, workers_end, killed_at_each_change):
+        for each in (first_steps, waits, refusals, signatures, shards, workers_end, program_is_left, killed_at_each_change):
             each(tries)
         files = list(real_files(count))
         print(f"    {len(files)} real files of {sum(len(data) for _, data in files):,} bytes, seed {seed}", flush=True)
