@@ -374,7 +374,8 @@ def of_packages(tries: Tries) -> None:
 def players(tries: Tries) -> None:
     """What plays the vectors to readers' programs says how it is called."""
     helped, missing = (tries.run(sys.executable, HOME / "reader" / "play.py", word) for word in ("--help", "nowhere.a"))
-    tries.check("help of the vectors' player", helped.status == 0 and b"ARCHIVE.a" in helped.printed and not helped.said)
+    helps = helped.status == 0 and b"ARCHIVE.a" in helped.printed and not helped.said
+    tries.check("help of the vectors' player", helps)
     line = "there is no library 'nowhere.a': ./prove ats_reader makes crates/ats_reader/out/libats_reader.a\n"
     tries.check("a library that is missing", missing == Ended(1, b"", line))
 

@@ -114,7 +114,8 @@ class Place(NamedTuple):
         ended = self.publish("--date", date, *CHOICE)
         seconds = time.monotonic() - began
         print(f"    {seconds:.1f} s: {ended.printed.decode().splitlines()[:2]}", flush=True)
-        self.tries.check(f"documents are published on {date}", ended.status == 0 and b" added to " in ended.printed, ended)
+        grew = ended.status == 0 and b" added to " in ended.printed
+        self.tries.check(f"documents are published on {date}", grew, ended)
         return ended, seconds
 
     def put(self, name: str, data: bytes) -> None:
@@ -335,6 +336,9 @@ def killed_at_each_change(tries: Tries) -> None:
     tries.check(f"a run with fewer than {change} changes ends", ended.status == 0 and change > 20, ended)
 
 
+FEW = (first_steps, waits, refusals, signatures, shards, workers_end, program_is_left, killed_at_each_change)
+
+
 # Real files
 
 
@@ -362,8 +366,8 @@ def third_month(tries: Tries, one: Place) -> tuple[float, str]:
 
 
 def killed(tries: Tries, one: Place) -> None:
-    """Runs that are killed: readers have the old archive or the new one, and the next run goes on. A run that ended before it
-    was killed is no trial, and an earlier moment takes the place of its own."""
+    """Runs that are killed: readers have the old archive or the new one, and the next run goes on. A run that ended
+    before it was killed is no trial, and an earlier moment takes the place of its own."""
     seconds, wanted = third_month(tries, one)
     moments, late = [random.random() * seconds for _ in range(KILLS)], 0
     while moments and late <= KILLS:
@@ -377,7 +381,8 @@ def killed(tries: Tries, one: Place) -> None:
 
 
 def is_killed(other: Place, moment: float, with_program: bool) -> bool:
-    """Starts a run and kills it after some seconds, with the program that it started or without. Says whether it still ran."""
+    """Starts a run and kills it after some seconds, with the program that it started or without. Says whether it still
+    ran."""
     run = other.start(subprocess.DEVNULL, *THIRD)
     time.sleep(moment)
     with contextlib.suppress(ProcessLookupError):  # it may have ended before
@@ -422,7 +427,7 @@ def main() -> int:
     random.seed(seed)
     with tempfile.TemporaryDirectory() as folder:
         tries = Tries(Path(folder), program)
-        for each in (first_steps, waits, refusals, signatures, shards, workers_end, program_is_left, killed_at_each_change):
+        for each in FEW:
             each(tries)
         files = list(real_files(count))
         print(f"    {len(files)} real files of {sum(len(data) for _, data in files):,} bytes, seed {seed}", flush=True)

@@ -20,7 +20,7 @@ class Ended(NamedTuple):
 
 
 def working(session: int) -> list[int]:
-    """The processes of a session that have not ended. Each run that is started in one of its own has all of its own there."""
+    """The processes of a session that have not ended: all those of a run, if it was started in one of its own."""
     found = []
     for path in Path("/proc").glob("[0-9]*/stat"):
         with contextlib.suppress(OSError):  # it has ended meanwhile
