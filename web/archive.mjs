@@ -49,27 +49,26 @@ export function neighbours(leaves, term) {
 
 /** One archive, by its root. Several of them, as shards, are read side by side by one of these each. */
 export class Archive {
-  #reader; #folder; #pageShift;
+  #read; #folder; #pageShift;
   /** @type {Page[]} */
   #pages = [];
   /** @type {Map<string, Promise<any>>} */
   #kept = new Map();
 
-  /** @type {(reader: import('./question.mjs').Reader, root: Uint8Array) => Promise<Archive>} */
-  static open(reader, root) {
+  /** @type {(read: import('./question.mjs').Read, root: Uint8Array) => Promise<Archive>} */
+  static open(read, root) {
     const folder = `${hex(root)}-${LAYOUT}`;
-    return reader.bound(
-      `${folder}/head`, 0, MOST_HEAD, bytes => new Archive(reader, folder, new Fields('head', bytes), root));
+    return read(`${folder}/head`, 0, MOST_HEAD, bytes => new Archive(read, folder, new Fields('head', bytes), root));
   }
 
   /**
-   * @param {import('./question.mjs').Reader} reader
+   * @param {import('./question.mjs').Read} read
    * @param {string} folder
    * @param {Fields} fields of the head
    * @param {Uint8Array} root
    */
-  constructor(reader, folder, fields, root) {
-    this.#reader = reader;
+  constructor(read, folder, fields, root) {
+    this.#read = read;
     this.#folder = folder;
     const [magic, layout] = [String.fromCharCode(...fields.take(4)), fields.u8()];
     if (magic !== 'ATSH' || layout !== LAYOUT) throw hostFault('wrong', 'head', 'another layout');
@@ -101,7 +100,7 @@ export class Archive {
    */
   async range(name, from, to, bind) {
     if (to === from) return bind(new Uint8Array(0));
-    return this.#reader.bound(`${this.#folder}/${name}`, from, to, bytes => {
+    return this.#read(`${this.#folder}/${name}`, from, to, bytes => {
       if (bytes.length < to - from) throw hostFault('cut', name, `ends at ${from + bytes.length}, before ${to}`);
       return bind(bytes);
     });

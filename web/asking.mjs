@@ -65,7 +65,7 @@ export class Asking {
    * @param {AbortSignal} [signal]
    */
   async shards(root, signal) {
-    const found = this.#shards.get(root) ?? await this.#source.ask('roots', { root }, { signal });
+    const found = this.#shards.get(root) ?? await this.#source('roots', { root }, { signal });
     if (!await this.#isOf(root, found, signal)) {
       throw new Fault('wrong', 'host: the roots of the archives: of another catalog',
         'The host’s list of archives is not this catalog’s. Ask another host, and tell the owner.');
@@ -78,7 +78,7 @@ export class Asking {
    * The newest root that is published, if there is any.
    * @param {string} root
    */
-  newest(root) { return this.#source.ask('newest', { root }).catch(() => undefined); }
+  newest(root) { return this.#source('newest', { root }).catch(() => undefined); }
 
   /** Whether these are the roots of the archives under a root. */
   async #isOf(root, shards, signal) {
@@ -137,7 +137,7 @@ export class Asking {
   async growth(root, offered, signal) {
     let at = root, before, after;
     try {
-      for (const { from, to, file } of await this.#source.ask('growth', { from: root, to: offered }, { signal })) {
+      for (const { from, to, file } of await this.#source('growth', { from: root, to: offered }, { signal })) {
         if (from !== at) return { kind: 'other' };
         const got = await this.#checks.call('growth', [file, bytesOfHex(from), bytesOfHex(to)], { signal });
         if (got.status !== 0) return { kind: 'refused', got };
@@ -173,7 +173,7 @@ export class Asking {
   async answer(question, words, how) {
     const { root, r, way } = question, { terms } = words, start = performance.now();
     const shards = await this.shards(root, how.signal), isBest = way === 'best';
-    const found = await this.#source.ask(isBest ? 'ranked' : 'both', { roots: shards, terms, r }, how);
+    const found = await this.#source(isBest ? 'ranked' : 'both', { roots: shards, terms, r }, how);
     const proofs = isBest && isCatalog({ root, shards }) ? [catalogFile(shards, found)] : found;
     const ms = performance.now() - start;
     return this.judged({ ...question, words, shards, proofs, texts: new Map(), titles: false, ms }, how.signal);
@@ -208,7 +208,7 @@ export class Asking {
     const { shards, texts, from } = answer, { shard, doc } = placeOf(name);
     const root = shards[shard], kept = texts.get(name);
     if (from && !kept) throw new Fault('missing', 'no text in the file', 'The saved file does not have it.');
-    const file = kept ?? await this.#source.ask('text', { root, doc }, { signal });
+    const file = kept ?? await this.#source('text', { root, doc }, { signal });
     const it = await this.#checks.call(call, [file, bytesOfHex(root), doc, ...words], { signal });
     if (it.got.status === 0 && call !== 'holds') texts.set(name, file);
     return { ...it, size: file.length };

@@ -7,7 +7,7 @@ import { MemoryCache } from './cache.mjs';
 import { Fault, throwOthers } from './fault.mjs';
 import { both, ranked, text } from './proofs.mjs';
 import { newest, rootsOf, way } from './publications.mjs';
-import { LIMITS, Question, Reader } from './question.mjs';
+import { LIMITS, Question, readerOf } from './question.mjs';
 import { ofShards } from './shards.mjs';
 
 /**
@@ -109,8 +109,8 @@ export class Assembler {
    */
   #fromArchives(roots, question, make) {
     const made = async (host, isAgain) => {
-      const reader = new Reader(host, this.#cache, question, isAgain);
-      return make(await ofShards(roots, root => Archive.open(reader, bytesOfHex(root))));
+      const read = readerOf(host, this.#cache, question, isAgain);
+      return make(await ofShards(roots, root => Archive.open(read, bytesOfHex(root))));
     };
     return this.#fromHosts(async host => {
       try {

@@ -10,27 +10,23 @@ const MOST_FILE = { head: 2 ** 16, texts: 2 ** 24, lists: 2 ** 26 }, MOST_OTHER 
 
 /** @typedef {import('./question.mjs').Question} Question */
 
-/** At most IN_FLIGHT pieces of work at the same time. */
-class Gate {
-  #running = 0;
+/** Does at most IN_FLIGHT pieces of work at the same time. */
+function gate() {
   /** @type {((none?: undefined) => void)[]} */
-  #waiting = [];
-
-  /**
-   * @template Made
-   * @param {() => Promise<Made>} work
-   */
-  async within(work) {
-    if (this.#running === IN_FLIGHT) await new Promise(go => this.#waiting.push(go));
-    else this.#running++;
+  const waiting = [];
+  let running = 0;
+  /** @type {<Made>(work: () => Promise<Made>) => Promise<Made>} */
+  return async work => {
+    if (running === IN_FLIGHT) await new Promise(go => waiting.push(go));
+    else running++;
     try {
       return await work();
     } finally {
-      const next = this.#waiting.shift();
+      const next = waiting.shift();
       if (next) next();
-      else this.#running--;
+      else running--;
     }
-  }
+  };
 }
 
 /** Ends a request with its question, or when next to nothing has moved for too long. */
@@ -103,7 +99,7 @@ function faultOfStatus(status, path) {
 
 /** A host of files, by its address. */
 export class HttpHost {
-  #base; #gate = new Gate();
+  #base; #within = gate();
   /** @type {Map<string, Promise<Uint8Array>>} */
   #whole = new Map();
 
@@ -165,7 +161,7 @@ export class HttpHost {
    * @returns {Promise<Made>}
    */
   #request(path, how, question, use) {
-    return this.#gate.within(async () => {
+    return this.#within(async () => {
       question.began();
       const watch = new Watch(question);
       try {

@@ -13,7 +13,7 @@ import {
   afterRefusal, capital, checkedOf, countingOf, dayOf, documents, duration, faultWords, grewOf, grownOf, headingOf,
   listed, number, quoted, reasonOf,
 } from './sentences.mjs';
-import { Source } from './source.mjs';
+import { sourceAt } from './source.mjs';
 import { $, announce, element, on, progress, say, show, sizeOf, write } from './view.mjs';
 import { Whole } from './whole.mjs';
 
@@ -44,7 +44,7 @@ const state = {
 };
 /** @param {string} [doc] that is open */
 const linkOfAnswer = doc => linkOf(answered(), { host: state.host, doc });
-const results = new Results($('list'), doc => `#${linkOfAnswer(doc)}`);
+const results = new Results(doc => `#${linkOfAnswer(doc)}`);
 const whole = new Whole(), NAMELESS = $('name').textContent, ROOTLESS = $('origin').textContent;
 
 const linked = () => new URLSearchParams(location.hash.slice(1));
@@ -532,7 +532,7 @@ function sourceOf(make) {
   const bases = basesOf(state.host), bad = blocked(bases);
   if (bad)
     throw new Error(`The link names the host ${bad}, which this page may not ask. ${faultWords({ word: 'blocked' })}`);
-  return new Source(make, bases);
+  return sourceAt(make, bases);
 }
 
 /**

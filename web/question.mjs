@@ -19,6 +19,10 @@ import { Fault, hostFault } from './fault.mjs';
  * @property {(path: string, most: number, question: Question) => Promise<Uint8Array | undefined>} file a small one
  *   that may change, or undefined if the host has none of this name
  * @property {() => void} forget what it keeps
+ *
+ * What `bind` makes of these bytes of a file, or of fewer if the file ends before `to`. It throws a Fault for bytes that
+ * do not fit.
+ * @typedef {<Made>(path: string, from: number, to: number, bind: (bytes: Uint8Array) => Made) => Promise<Made>} Read
  */
 
 /** @type {Limits} */
@@ -97,40 +101,20 @@ export class Question {
   }
 }
 
-/** Reads for one question from one host, and keeps what was bound. */
-export class Reader {
-  #host; #cache; #question; #isAgain;
-
-  /**
-   * @param {Host} host
-   * @param {import('./cache.mjs').Cache} cache
-   * @param {Question} question
-   * @param {boolean} isAgain whether nothing that is kept anywhere is used
-   */
-  constructor(host, cache, question, isAgain) {
-    this.#host = host;
-    this.#cache = cache;
-    this.#question = question;
-    this.#isAgain = isAgain;
-  }
-
-  /**
-   * What `bind` makes of these bytes of a file, or of fewer if the file ends before `to`. It throws a Fault for bytes
-   * that do not fit.
-   * @template Made
-   * @param {string} path
-   * @param {number} from
-   * @param {number} to
-   * @param {(bytes: Uint8Array) => Made} bind
-   * @returns {Promise<Made>}
-   */
-  async bound(path, from, to, bind) {
-    const key = `${path} ${from} ${to}`, kept = this.#isAgain ? undefined : await this.#cache.get(key);
-    if (kept) return bind(kept);
-    const bytes = await this.#host.read(path, from, to, this.#question, this.#isAgain);
-    if (bytes.length > to - from) throw hostFault('long', path, `${bytes.length} bytes for ${to - from}`);
-    const value = bind(bytes);
-    this.#cache.put(key, bytes);
-    return value;
-  }
-}
+/**
+ * Reads for one question from one host, and keeps what was bound.
+ * @param {Host} host
+ * @param {import('./cache.mjs').Cache} cache
+ * @param {Question} question
+ * @param {boolean} isAgain whether nothing that is kept anywhere is used
+ * @returns {Read}
+ */
+export const readerOf = (host, cache, question, isAgain) => async (path, from, to, bind) => {
+  const key = `${path} ${from} ${to}`, kept = isAgain ? undefined : await cache.get(key);
+  if (kept) return bind(kept);
+  const bytes = await host.read(path, from, to, question, isAgain);
+  if (bytes.length > to - from) throw hostFault('long', path, `${bytes.length} bytes for ${to - from}`);
+  const value = bind(bytes);
+  cache.put(key, bytes);
+  return value;
+};

@@ -4,7 +4,7 @@ import { each } from './calls.mjs';
 import { faultOf } from './fault.mjs';
 import { documentOf } from './places.mjs';
 import { capital, faultWords, reasonOf, scoreOf } from './sentences.mjs';
-import { element, marked } from './view.mjs';
+import { $, element, marked } from './view.mjs';
 
 const TEXTS_AT_ONCE = 4, COMING = 'The text is on its way …';
 
@@ -12,26 +12,22 @@ const TEXTS_AT_ONCE = 4, COMING = 'The text is on its way …';
 
 /** The list of results. */
 export class Results {
-  #list; #linkTo;
+  #linkTo;
   /** @type {import('./asking.mjs').Asking | undefined} */
   #asking;
   #end = new AbortController();
   /** @type {Promise<unknown>} */
   #coming = Promise.resolve();
 
-  /**
-   * @param {HTMLElement} list
-   * @param {(doc: string) => string} linkTo the address of a text
-   */
-  constructor(list, linkTo) {
-    this.#list = list;
+  /** @param {(doc: string) => string} linkTo the address of a text */
+  constructor(linkTo) {
     this.#linkTo = linkTo;
   }
 
   clear() {
     this.#end.abort(new DOMException('another answer', 'AbortError'));
     this.#end = new AbortController();
-    this.#list.replaceChildren();
+    $('list').replaceChildren();
   }
 
   /**
@@ -42,7 +38,7 @@ export class Results {
     this.clear();
     this.#asking = asking;
     const items = docs.map((doc, i) => this.#item(answer, doc, i));
-    this.#list.replaceChildren(...items);
+    $('list').replaceChildren(...items);
     this.#coming = each([...items.keys()], TEXTS_AT_ONCE, i => this.#fill(answer, docs[i], items[i]));
   }
 

@@ -5,33 +5,21 @@ import { Calls } from './calls.mjs';
 import { Fault } from './fault.mjs';
 import { faultWords } from './sentences.mjs';
 
-/** @typedef {import('./assembler.mjs').Assembler} Assembler */
+/**
+ * @typedef {import('./assembler.mjs').Assembler} Assembler
+ *
+ * What an Assembler answers to a call.
+ * @typedef {<Call extends keyof Assembler>(call: Call, words: Parameters<Assembler[Call]>[0],
+ *   how?: import('./question.mjs').How) => Promise<Awaited<ReturnType<Assembler[Call]>>>} Source
+ */
 
-export class Source {
-  #calls;
-
-  /**
-   * @param {() => Worker} make the worker that assembles
-   * @param {string[]} bases addresses of hosts, which are tried in turn
-   */
-  constructor(make, bases) {
-    this.#calls = new Calls(make, { bases }, true);
-  }
-
-  /**
-   * What an Assembler answers to a call.
-   * @template {keyof Assembler} Call
-   * @param {Call} call
-   * @param {Parameters<Assembler[Call]>[0]} words
-   * @param {import('./question.mjs').How} [how]
-   * @returns {Promise<Awaited<ReturnType<Assembler[Call]>>>}
-   */
-  ask(call, words, how) {
-    return this.#calls.call(call, words, how).catch(fault => {
-      if (fault instanceof Fault) fault.said = saidOf(fault);
-      throw fault;
-    });
-  }
+/** @type {(make: () => Worker, bases: string[]) => Source} by this worker, of the hosts at these addresses in turn */
+export function sourceAt(make, bases) {
+  const calls = new Calls(make, { bases }, true);
+  return (call, words, how) => calls.call(call, words, how).catch(fault => {
+    if (fault instanceof Fault) fault.said = saidOf(fault);
+    throw fault;
+  });
 }
 
 /** @type {(fault: Fault) => string} a sentence of this source's own for some faults */
