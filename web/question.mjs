@@ -20,8 +20,8 @@ import { Fault, hostFault } from './fault.mjs';
  *   that may change, or undefined if the host has none of this name
  * @property {() => void} forget what it keeps
  *
- * What `bind` makes of these bytes of a file, or of fewer if the file ends before `to`. It throws a Fault for bytes that
- * do not fit.
+ * What `bind` makes of these bytes of a file, or of fewer if the file ends before `to`. It throws a Fault for bytes
+ * that do not fit.
  * @typedef {<Made>(path: string, from: number, to: number, bind: (bytes: Uint8Array) => Made) => Promise<Made>} Read
  */
 
