@@ -68,8 +68,11 @@ export class Reading {
 
   /** @param {string} text */
   #wordsOf(text) {
-    const pieces = [...text.matchAll(BETWEEN_SPACES)];
-    return pieces.flatMap(({ 0: piece, index = 0 }) => moved(this.#inPiece(piece), index));
+    const words = [];
+    for (const { 0: piece, index = 0 } of text.matchAll(BETWEEN_SPACES)) {
+      for (const { term, from, to } of this.#inPiece(piece)) words.push({ term, from: index + from, to: index + to });
+    }
+    return words;
   }
 
   /** @type {(text: string, sequences: string[][]) => Hit[]} */
