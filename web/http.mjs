@@ -100,7 +100,7 @@ function faultOfStatus(status, path) {
 /** A host of files, by its address. */
 export class HttpHost {
   #base; #within = gate();
-  /** @type {Map<string, Promise<Uint8Array>>} */
+  /** @type {Map<string, { bytes: Promise<Uint8Array>, isAgain: boolean }>} whether they came past every cache */
   #whole = new Map();
 
   /** @param {string} base the address of the folder that has the folders of archives */
@@ -112,13 +112,13 @@ export class HttpHost {
   read(path, from, to, question, isAgain = false) {
     const headers = { Range: `bytes=${from}-${to - 1}` }, cache = isAgain ? 'reload' : 'default';
     return this.#again(question, async () => {
-      const whole = this.#whole.get(path);
+      const whole = this.#kept(path, isAgain);
       if (whole) return this.#partOf(whole, path, from, to, question);
       return this.#request(path, { headers, cache }, question, async (reply, watch) => {
         if (reply.status === 206) return watch.take(reply, to - from);
         if (reply.status === 416) return new Uint8Array(0);
         if (reply.status !== 200) throw faultOfStatus(reply.status, path);
-        return this.#partOf(this.#keepWhole(path, reply, watch), path, from, to, question);
+        return this.#partOf(this.#keepWhole(path, isAgain, reply, watch), path, from, to, question);
       });
     });
   }
@@ -179,17 +179,23 @@ export class HttpHost {
     });
   }
 
+  /** What another question's first try got out of a cache is not used again. */
+  #kept(path, isAgain) {
+    const kept = this.#whole.get(path);
+    return kept && (kept.isAgain || !isAgain) ? kept.bytes : undefined;
+  }
+
   /**
    * A reply without a range has the whole file. Many may come at the same time, and one is enough.
-   * @type {(path: string, reply: Response, watch: Watch) => Promise<Uint8Array>}
+   * @type {(path: string, isAgain: boolean, reply: Response, watch: Watch) => Promise<Uint8Array>}
    */
-  #keepWhole(path, reply, watch) {
-    const kept = this.#whole.get(path);
+  #keepWhole(path, isAgain, reply, watch) {
+    const kept = this.#kept(path, isAgain);
     if (kept) return kept;
-    const got = watch.takeAll(reply, MOST_FILE[path.replace(/.*\//, '')] ?? MOST_OTHER, path);
-    got.catch(() => this.#whole.delete(path));
-    this.#whole.set(path, got);
-    return got;
+    const bytes = watch.takeAll(reply, MOST_FILE[path.replace(/.*\//, '')] ?? MOST_OTHER, path);
+    bytes.catch(() => this.#whole.delete(path));
+    this.#whole.set(path, { bytes, isAgain });
+    return bytes;
   }
 
   /**

@@ -5,6 +5,7 @@ import { readFile } from 'node:fs/promises';
 import { createServer } from 'node:http';
 import { gzipSync } from 'node:zlib';
 import { Assembler } from '../assembler.mjs';
+import { MemoryCache } from '../cache.mjs';
 import { Fault } from '../fault.mjs';
 import { HttpHost } from '../http.mjs';
 import { FolderHost } from './folder.mjs';
@@ -147,6 +148,26 @@ await served(good, async base => {
     const got = await served(answer, bad => outcome([new HttpHost(bad), new HttpHost(base)]));
     ends(`a mirror after: ${name}`, 'honest', got);
   }
+});
+// A cache on the way has another page for one file, as after a page to log in. Past it the host is honest.
+const behindCache = (request, reply) => {
+  const isPast = request.headers['cache-control'] === 'no-cache' || !request.url.endsWith('/texts-tree');
+  return (isPast ? good : sends(200, () => '<html>log in</html>'))(request, reply);
+};
+/** It takes a moment to forget, as a browser's own store does. */
+class SlowCache extends MemoryCache {
+  async forget(folder) {
+    await super.forget(folder);
+    await pause(20);
+  }
+}
+await served(behindCache, async base => {
+  const assembler = new Assembler([new HttpHost(base)], { cache: new SlowCache(), limits });
+  const asked = Array.from({ length: 36 }, async (_, doc) => {
+    await pause(3 * doc);
+    return assembler.text({ root, doc }).then(() => 'honest', fault => fault.word);
+  });
+  ends('a cache with another page, and many texts at once', 'honest', [...new Set(await Promise.all(asked))].join());
 });
 await served(() => {}, async base => {
   const stopper = new AbortController(), start = performance.now();
