@@ -1,3 +1,4 @@
+pub mod Public
 mod Falls
 mod Shared
 mod Within

@@ -1,0 +1,4 @@
+-- What the functions of the room promise one another. No public contract rests on it.
+pub mod First
+pub mod Kept
+pub mod ShardFault
