@@ -1,5 +1,5 @@
 -- The file of all shards, once each has its proof.
-use Rattle.std.proofs.Common.{◌≡◌, ◌∙◌, ◌+◌, ◌*◌, ◌<◌, ◌≤◌, ◌^◌, ◌++◌, ◌∷◌, ℕ, zero, suc, List, [], length, map, get_or, refl, sym, ap, ap₂, subst, arith, length-append}
+use Rattle.std.proofs.Common.{◌≡◌, ◌∙◌, ◌+◌, ◌*◌, ◌<◌, ◌≤◌, ◌^◌, ◌++◌, ◌∷◌, ℕ, zero, suc, List, [], length, get_or, refl, sym, ap, ap₂, subst, arith, length-append}
 use Rattle.std.specs.List.{All, concat, flat_map, sum_by}
 use Rattle.std.proofs.lemmas.List.{length-map}
 use Rattle.std.proofs.lemmas.List.Elements.{All-cons, All-head, All-map, All-nil, All-tail}
@@ -11,18 +11,18 @@ use Rattle.ats_commit.specs.Root.{root_of}
 use Rattle.ats_proof.specs.declared.record.Algorithm.TheVariants.{Tra}
 use Rattle.ats_proof.specs.Value.{IsProof, Proof}
 use Rattle.ats_proof.proofs.Public.{length-spelled}
-use Rattle.ats_honest.specs.Honest.{IsHonestWithin, IsShareProved}
+use Rattle.ats_honest.specs.Honest.{IsHonestWithin}
 use Rattle.ats_catalog_bytes.specs.Catalog.{IsCatalog, archive_at, roots_of}
 use Rattle.ats_catalog_bytes.specs.Value.{AreFrames, Framed, IsCatalogProof, IsFrame, fields_of, frame_size, proof_fields, proofs_fields, shown_roots}
 use Rattle.ats_catalog_bytes.proofs.Public.{spells}
 use Rattle.ats_catalog_check.specs.Accepts.{AreProofs}
-use Rattle.ats_catalog_honest.specs.Honest.{AreHonestProofs, IsHonestFile, IsProvedCatalog}
+use Rattle.ats_catalog_honest.specs.Honest.{IsHonestFile, IsProvedCatalog}
 use Rattle.ats_catalog_honest.specs.Ranking.{shares_of}
 use Rattle.ats_catalog_honest.specs.Shares.{floors_of}
-use Rattle.ats_catalog_proof.specs.Proving.{IsProving, IsTooLongCatalog, asked_of}
+use Rattle.ats_catalog_proof.specs.Proving.{IsProving, IsTooLongCatalog}
 use Rattle.ats_catalog_proof.specs.ProvingState.{ProvingState}
 use Rattle.ats_catalog_proof.specs.Written.{bytes_of, front_fields}
-use Rattle.ats_catalog_proof.proofs.Shards.{NeedNoEdges, as_many, is_catalog}
+use Rattle.ats_catalog_proof.proofs.Shards.{NeedNoEdges, is_catalog}
 use Rattle.ats_catalog_proof.proofs.Spelling.{front_size}
 
 -- each root with the proof in its place

@@ -1,6 +1,6 @@
 -- The proofs of shards, one after another.
-use Rattle.std.proofs.Common.{◌≡◌, ◌≢◌, ◌∙◌, ◌↔◌, ◌+◌, ◌-◌, ◌<◌, ◌≤◌, ◌^◌, ◌++◌, ◌∷◌, ℕ, List, [], length, map, take, get_or, refl, sym, ap, subst, inl, inr, arith, append-nil, append_assoc}
-use Rattle.std.specs.List.{All, concat, flat_map}
+use Rattle.std.proofs.Common.{◌≡◌, ◌≢◌, ◌∙◌, ◌↔◌, ◌+◌, ◌-◌, ◌<◌, ◌≤◌, ◌^◌, ◌++◌, ◌∷◌, ℕ, List, [], length, take, get_or, refl, sym, ap, subst, inl, inr, arith, append-nil, append_assoc}
+use Rattle.std.specs.List.{concat, flat_map}
 use Rattle.std.proofs.lemmas.Bool.{cases_lt}
 use Rattle.std.proofs.lemmas.List.{get_or-append_right, get_or-map, get_or_append_left, get_or_default, length-append, length-map}
 use Rattle.std.proofs.lemmas.List.Concat.{flat_map-append}
@@ -13,7 +13,7 @@ use Rattle.ats_proof.specs.Written.{Written, writing}
 use Rattle.ats_proof.specs.declared.record.Algorithm.{Algorithm}
 use Rattle.ats_proof.specs.declared.record.Algorithm.TheVariants.{Tra}
 use Rattle.ats_proof.specs.Value.{Proof}
-use Rattle.ats_honest.specs.Honest.{IsHonestShare, IsHonestWithin, IsShareProved, IsTooLongBy}
+use Rattle.ats_honest.specs.Honest.{IsHonestShare, IsHonestWithin, IsShareProved}
 use Rattle.ats_catalog_bytes.specs.Catalog.{IsCatalog, archive_at, roots_of}
 use Rattle.ats_catalog_bytes.specs.Value.{proof_fields}
 use Rattle.ats_catalog_check.specs.Headline.{score_in, size_in}
@@ -22,7 +22,7 @@ use Rattle.ats_catalog_honest.specs.Ranking.{IsRankedBy, Ranked, shares_of}
 use Rattle.ats_catalog_honest.specs.Shares.{floors_of, share_of}
 use Rattle.ats_catalog_honest.proofs.Public.{one_ranking}
 use Rattle.ats_catalog_proof.specs.Inner.ShardFault.{IsShardFault}
-use Rattle.ats_catalog_proof.specs.Proving.{HasBegun, HasProved, IsProveFault, IsProving, asked_of}
+use Rattle.ats_catalog_proof.specs.Proving.{IsProveFault, IsProving, asked_of}
 use Rattle.ats_catalog_proof.specs.ProvingState.{ProvingState}
 use Rattle.ats_catalog_proof.specs.Ranking.{IsRankingOf}
 use Rattle.ats_catalog_proof.specs.RankingState.{RankingState}

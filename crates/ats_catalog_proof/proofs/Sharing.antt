@@ -1,12 +1,11 @@
 -- The number of rows that a shard is asked for, and the last edge.
-use Rattle.std.proofs.Common.{◌≡◌, ◌∙◌, ◌+◌, ◌-◌, ◌<◌, ◌≤◌, ◌^◌, ℕ, zero, suc, Bool, true, false, cond, nat_eq, nat_lt, leb, List, [], ◌∷◌, length, map, take, get_or, refl, sym, ap, inl, inr, arith}
+use Rattle.std.proofs.Common.{◌≡◌, ◌∙◌, ◌+◌, ◌-◌, ◌<◌, ◌≤◌, ℕ, zero, suc, Bool, true, false, cond, nat_eq, nat_lt, List, [], ◌∷◌, length, map, take, get_or, refl, sym, ap, arith}
 use Rattle.std.specs.List.{count_by}
-use Rattle.std.proofs.lemmas.Bool.{cases_lt}
 use Rattle.std.proofs.lemmas.Bool.Decides.{nat_tests}
-use Rattle.std.proofs.lemmas.List.{get_or-take, get_or_default, length-map, length-take, take_all}
+use Rattle.std.proofs.lemmas.List.{get_or-take, get_or_default, length-map, length-take}
 use Rattle.std.proofs.lemmas.List.Sums.{sum_by-cons}
 use Rattle.ats_proof.specs.declared.record.Algorithm.TheVariants.{Tra}
-use Rattle.ats_catalog_honest.specs.Ranking.{Ranked, edge, ranked_at, shares_of}
+use Rattle.ats_catalog_honest.specs.Ranking.{Ranked, edge, ranked_at}
 use Rattle.ats_catalog_honest.specs.Shares.{rows_from}
 
 counted_step : (b : Bool) (j : ℕ) (more : List ℕ) → length (cond b (j ∷ more) more) ≡ cond b 1 0 + length more

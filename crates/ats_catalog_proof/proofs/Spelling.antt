@@ -1,6 +1,6 @@
 -- The bytes of a catalog's proof, field by field.
-use Rattle.std.proofs.Common.{◌≡◌, ◌∙◌, ◌+◌, ◌*◌, ◌<◌, ◌≤◌, ◌^◌, ◌++◌, ◌∷◌, ℕ, List, [], length, map, take, get_or, Option, Some, None, refl, sym, ap, subst, arith, append-nil, append_assoc, length-append}
-use Rattle.std.specs.List.{All, concat, flat_map}
+use Rattle.std.proofs.Common.{◌≡◌, ◌∙◌, ◌+◌, ◌*◌, ◌<◌, ◌≤◌, ◌^◌, ◌++◌, ◌∷◌, ℕ, List, [], length, take, get_or, Option, Some, None, sym, ap, arith, append-nil, append_assoc, length-append}
+use Rattle.std.specs.List.{All, concat}
 use Rattle.std.specs.Int.{to_be_bytes, w32}
 use Rattle.std.specs.Prelude.{if◌then◌else◌, nat_lt}
 use Rattle.std.proofs.lemmas.Bool.Decides.{nat_tests}
@@ -10,7 +10,7 @@ use Rattle.ats_grammar.specs.Table.{spelled}
 use Rattle.ats_proof.specs.Written.{Written, after, writing}
 use Rattle.ats_proof.proofs.Public.{length-spelled, length_digests, spelled_4}
 use Rattle.ats_catalog_bytes.specs.Value.{proof_fields}
-use Rattle.ats_catalog_proof.specs.Written.{front_bytes, front_fields}
+use Rattle.ats_catalog_proof.specs.Written.{front_bytes}
 
 -- what comes before the roots
 abbrev pub begun : ℕ → List ℕ

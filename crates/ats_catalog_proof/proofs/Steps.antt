@@ -1,5 +1,5 @@
 -- One shard more: the first rows of a catalog with it are the first of its own and of those before.
-use Rattle.std.proofs.Common.{◌≡◌, ◌∙◌, ◌⊎◌, ◌+◌, ◌-◌, ◌<◌, ◌≤◌, ◌++◌, ◌∷◌, ℕ, Bool, true, false, cond, nat_eq, nat_lt, List, [], length, map, take, get_or, refl, sym, ap, subst, inl, inr, arith}
+use Rattle.std.proofs.Common.{◌≡◌, ◌∙◌, ◌⊎◌, ◌+◌, ◌-◌, ◌<◌, ◌≤◌, ◌++◌, ◌∷◌, ℕ, Bool, true, false, cond, nat_eq, List, [], length, take, get_or, refl, sym, ap, subst, inl, inr, arith}
 use Rattle.std.specs.List.{All, Contains, IsDistinct, count_by}
 use Rattle.std.specs.List.Sorted.{IsPermutation, IsSorted, IsStrictlySortedBy}
 use Rattle.std.specs.Ordering.{eq_by_cmp, is_eq, is_lt, nat_cmp, ordering_then}
@@ -20,7 +20,7 @@ use Rattle.ats_impact.specs.Score.{score}
 use Rattle.ats_commit.specs.Archive.{Archive, archive_of}
 use Rattle.ats_commit.specs.Own.{AreTexts}
 use Rattle.ats_commit.specs.Root.{root_of}
-use Rattle.ats_catalog_bytes.specs.Catalog.{archive_at, roots_of}
+use Rattle.ats_catalog_bytes.specs.Catalog.{archive_at}
 use Rattle.ats_catalog_check.specs.Headline.{score_in, size_in}
 use Rattle.ats_catalog_honest.specs.Ranking.{IsRankedBy, IsScored, Ranked, ranked_cmp}
 use Rattle.ats_catalog_honest.proofs.Public.{is_there, ranked_cmp_exact, ranked_cmp_total, ranking_exists, strictly_sorted}
@@ -274,11 +274,11 @@ module _ (H : List ℕ → List ℕ) where
   abbrev pub taken : RankingState → List (List ℕ) → List Ranked → RankingState
   taken old roots rows = record { query = old.query; r = old.r; roots = roots; rows = rows }
 
-  pub one_ranked : (archive : Archive) (old : RankingState) (roots : List (List ℕ)) (rows : List Ranked) (found : List Row) → AreTexts archive.texts
-      → roots ≡ old.roots ++ root_of H archive ∷ [] → IsRanking archive.texts old.query old.r found
+  pub one_ranked : (archive : Archive) (old : RankingState) (root : List ℕ) (roots : List (List ℕ)) (rows : List Ranked) (found : List Row) → AreTexts archive.texts
+      → root ≡ root_of H archive → roots ≡ old.roots ++ root ∷ [] → IsRanking archive.texts old.query old.r found
       → AreFirst old.r (old.rows ++ in_shard (length old.roots) found) rows → HasRanked H archive old (taken old roots rows)
-  one_ranked archive old roots rows found texts added found_is first = record {
-    roots = added;
+  one_ranked archive old root roots rows found texts is_root pushed found_is first = record {
+    roots = pushed ∙ ap (λ (d : List ℕ). old.roots ++ d ∷ []) is_root;
     goes = λ catalog query r is.
         let size : length old.roots ≡ length catalog = ap length is.roots ∙ length-map catalog (root_of H) in
         let own : IsRanking archive.texts query r found =
@@ -292,7 +292,7 @@ module _ (H : List ℕ → List ℕ) where
           valid = is.valid;
           most = is.most;
           texts = All-push (λ (a : Archive). AreTexts a.texts) catalog archive is.texts texts;
-          roots = added ∙ ap (λ (rs : List (List ℕ)). rs ++ root_of H archive ∷ []) is.roots ∙ sym (map-append (root_of H) catalog (archive ∷ []));
+          roots = pushed ∙ ap (λ (d : List ℕ). old.roots ++ d ∷ []) is_root ∙ ap (λ (rs : List (List ℕ)). rs ++ root_of H archive ∷ []) is.roots ∙ sym (map-append (root_of H) catalog (archive ∷ []));
           ranking = next.0;
           ranked = next.1;
           rows = next.2;

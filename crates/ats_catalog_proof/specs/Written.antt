@@ -1,5 +1,5 @@
 -- The bytes of a catalog's proof, from the roots of its shards and their proofs.
-use Rattle.std.specs.Prelude.{ℕ, List, [], ◌∷◌, ◌++◌, length}
+use Rattle.std.specs.Prelude.{ℕ, List, ◌∷◌, ◌++◌, length}
 use Rattle.std.specs.List.{concat, flat_map}
 use Rattle.ats_grammar.specs.Table.{spelled}
 use Rattle.ats_catalog_bytes.specs.Value.{proof_fields}

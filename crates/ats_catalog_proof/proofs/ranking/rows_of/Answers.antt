@@ -1,4 +1,4 @@
-use Rattle.std.proofs.Common.{◌≡◌, ◌∙◌, ℕ, List, length, take, nat_eq, sym, ap, arith}
+use Rattle.std.proofs.Common.{◌∙◌, take, nat_eq, sym, ap, arith}
 use Rattle.std.specs.List.{count_by}
 use Rattle.std.proofs.lemmas.List.{take_all}
 use Rattle.ats_catalog_honest.specs.Ranking.{Ranked}

@@ -1,7 +1,5 @@
-use Rattle.std.proofs.Common.{◌≡◌, ◌++◌, take, length}
+use Rattle.std.proofs.Common.{◌≡◌, ◌++◌, take}
 use Rattle.std.specs.List.{concat}
-use Rattle.std.specs.Int.{to_be_bytes, w32}
-use Rattle.ats_catalog_proof.specs.Written.{front_fields}
 use Rattle.ats_catalog_proof.proofs.writer.front.Given as goal
 
 -- what comes before the roots, and the roots so far

@@ -1,4 +1,4 @@
-use Rattle.std.proofs.Common.{◌≡◌, ◌≤◌, ℕ, List, length, sym, subst}
+use Rattle.std.proofs.Common.{◌≡◌, ◌≤◌, length, sym, subst}
 use Rattle.ats_catalog_bytes.specs.Catalog.{roots_of}
 use Rattle.ats_catalog_proof.specs.Proving.{IsProving}
 use Rattle.ats_catalog_proof.specs.ProvingState.{ProvingState}

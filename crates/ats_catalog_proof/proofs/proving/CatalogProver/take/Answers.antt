@@ -1,14 +1,13 @@
-use Rattle.std.proofs.Common.{◌≡◌, ◌≢◌, ◌∙◌, ◌+◌, ◌<◌, ◌≤◌, ◌++◌, ◌^◌, ℕ, Bool, true, false, not, nat_eq, List, [], length, get_or, sym, ap, subst, refl, arith}
+use Rattle.std.proofs.Common.{◌≡◌, ◌≢◌, ◌∙◌, ◌+◌, ◌<◌, ◌++◌, ◌^◌, ℕ, true, false, not, nat_eq, List, [], length, get_or, sym, ap, subst, refl}
 use Rattle.std.specs.List.{concat}
 use Rattle.std.specs.Cmp.Lexicographic.{pointwise}
 use Rattle.std.proofs.lemmas.Cmp.{nat_list_eq_equiv}
 use Rattle.std.proofs.lemmas.List.{get_or_default}
 use Rattle.std.proofs.lemmas.Result.{err_from_is_err_and}
-use Rattle.ats_commit.specs.Archive.{Archive}
-use Rattle.ats_proof.specs.Written.{Written, writing}
+use Rattle.ats_proof.specs.Written.{writing}
 use Rattle.ats_catalog_bytes.specs.Catalog.{archive_at}
 use Rattle.ats_catalog_bytes.specs.Value.{proof_fields}
-use Rattle.ats_catalog_proof.specs.Proving.{HasProved, IsProveFault, IsProving, asked_of}
+use Rattle.ats_catalog_proof.specs.Proving.{HasProved, IsProveFault, IsProving}
 use Rattle.ats_catalog_proof.specs.ProvingState.{ProvingState}
 use Rattle.ats_catalog_proof.proofs.Shards.{fault_of, one_proved, other_root, share_is}
 use Rattle.ats_catalog_proof.proofs.proving.CatalogProver.take.Goals as goal

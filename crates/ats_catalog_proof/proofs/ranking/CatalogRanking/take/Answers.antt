@@ -1,7 +1,4 @@
-use Rattle.std.proofs.Common.{◌≡◌, ◌∙◌, ◌++◌, ◌∷◌, ◌≤◌, ℕ, List, [], length, ap, subst, rules}
-use Rattle.std.proofs.lemmas.List.{length-append, length-take}
-use Rattle.std.proofs.lemmas.List.Elements.{All-push}
-use Rattle.std.specs.List.{All}
+use Rattle.std.proofs.Common.{◌≡◌, ◌++◌, ℕ, List, length, subst, rules}
 use Rattle.ats_impact.specs.declared.rank.Row.{Row}
 use Rattle.ats_impact.specs.Rank.{IsRanking}
 use Rattle.ats_catalog_honest.specs.Ranking.{Ranked}
@@ -27,5 +24,4 @@ returns-clause-taken g c =
     (subst (λ (n : ℕ). AreFirst old.r (c.deref.result.now ++ in_shard n found) rows) many
     (subst (λ (fs : List Row). AreFirst old.r (c.deref.result.now ++ in_shard c.len-shard.result fs) rows) c.as_slice.ensures c.in_ok-rows.ensures)) in
     subst (λ (before : RankingState). HasRanked H index before (taken H old c.push.new.self.items rows)) c.self.view_is
-    (one_ranked H index old c.push.new.self.items rows found c.collection.ensures.texts
-    (c.in_ok-push.ensures.items ∙ ap (λ (d : List ℕ). inside.roots.items ++ d ∷ []) c.root.ensures) ranked first)
+    (one_ranked H index old c.root.result c.push.new.self.items rows found c.collection.ensures.texts c.root.ensures c.in_ok-push.ensures.items ranked first)

@@ -1,6 +1,5 @@
-use Rattle.std.proofs.Common.{◌≡◌, ◌∙◌, ◌≤◌, ◌+◌, ◌*◌, ◌^◌, ℕ, List, length, Some, sym, ap, arith}
+use Rattle.std.proofs.Common.{◌≡◌, ◌∙◌, ◌+◌, ◌*◌, ◌^◌, ℕ, List, length, Some, sym, ap, arith}
 use Rattle.ats_proof.specs.Written.{Written, writing}
-use Rattle.ats_catalog_proof.specs.Written.{front_bytes}
 use Rattle.ats_catalog_proof.proofs.Spelling.{all_written, front_size}
 use Rattle.ats_catalog_proof.proofs.writer.CatalogWriter.begin.Goals as goal
 
