@@ -367,7 +367,7 @@ def third_month(tries: Tries, one: Place) -> tuple[float, str]:
 
 def killed(tries: Tries, one: Place) -> None:
     """Runs that are killed: readers have the old archive or the new one, and the next run goes on. A run that ended
-    before it was killed is no trial, and an earlier moment takes the place of its own."""
+    before it was killed is no trial: its moment, and those that are left, are drawn again from the time before it."""
     seconds, wanted = third_month(tries, one)
     moments, late = [random.random() * seconds for _ in range(KILLS)], 0
     while moments and late <= KILLS:
@@ -376,7 +376,7 @@ def killed(tries: Tries, one: Place) -> None:
             see_killed(tries, other, f"after {moment:.1f} s", wanted)
         else:
             late += 1
-            moments.append(random.random() * moment)
+            moments = [random.random() * moment for _ in [*moments, moment]]
     tries.check(f"{KILLS} runs are killed, apart from {late} that ended before", not moments)
 
 
