@@ -22,7 +22,7 @@ use Rattle.ats_catalog_proof.specs.declared.fault.CatalogProveFault.TheVariants.
 abbrev pub asked_of : ℕ → List Ranked → ℕ → Share
 asked_of r ranking i = share_of (shares_of (λ _. Tra) r ranking) i
 
--- The first pass has taken the archives of a catalog. The roots are written, and the proofs of the first shards: each is the
+-- The first pass has taken the archives of a catalog. The roots are written, and the proofs of the first shards, each the
 -- honest one of its share.
 pub record IsProving (H : List ℕ → List ℕ) (catalog : List Archive) (query : List (List ℕ × ℕ)) (r : ℕ) (state : ProvingState) : Type 0 where
   pub ranked : IsRankingOf H catalog query r state.ranking
@@ -47,8 +47,8 @@ pub record HasProved (H : List ℕ → List ℕ) (archive : Archive) (before aft
       → archive ≡ archive_at catalog before.proved
       → IsProving H catalog query r before → IsProving H catalog query r after
 
--- why a shard's proof is not there: the archive is another than the first pass took for it, or its honest proof is too
--- long, for whichever ranking it is, or memory ran out
+-- why a shard has no proof: the archive is another than the first pass took for it, or the honest proof of its share is
+-- longer than proofs may be, or memory ran out
 abbrev pub IsProveFault : (List ℕ → List ℕ) → List Archive → List (List ℕ × ℕ) → List Ranked → ℕ → Archive → ℕ → CatalogProveFault → Type 0
 IsProveFault H catalog query ranking r archive next (OtherIndex shard) = (shard ≡ next) × (archive ≢ archive_at catalog next)
 IsProveFault H catalog query ranking r archive next (ProofTooLong shard length) =

@@ -79,8 +79,8 @@ impl<'a, H: HashKind> CatalogProver<'a, H> {
         })
     }
 
-    /// Appends the proof of the next shard. The index, which may be dropped after the call, must be that which the first
-    /// pass took for the shard.
+    /// Appends the proof of the next shard. The index must be the one that the first pass took for the shard; it may be
+    /// dropped after the call. A root that differs is found here, before anything is proved.
     pub fn take(self, alloc: Global, index: &Index<H>) -> Result<Self, CatalogProveFault>
         requires left { self.proved < length self.ranking.roots }
         ensures proved { IfOk result (HasProved H.hash index.now self.entry) }

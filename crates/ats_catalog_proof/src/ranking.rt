@@ -1,6 +1,6 @@
 //! The ranking of a catalog, shard by shard.
 
-ghost use Rattle.std.specs.Prelude.{◌≡◌, ◌≤◌, ◌<◌, ◌+◌, [], ℕ, List, length, take, slice_index_or, IfOk, OnOk, OnErr};
+ghost use Rattle.std.specs.Prelude.{◌≡◌, ◌≤◌, ◌<◌, [], ℕ, List, length, take, OnOk, OnErr};
 ghost use Rattle.std.specs.List.{All};
 ghost use Rattle.ats_proof.specs.declared.record.Algorithm.TheVariants.{Tra};
 ghost use Rattle.ats_catalog_honest.specs.Ranking.{Ranked, shares_of};

@@ -1,6 +1,6 @@
 //! The bytes of a catalog's proof, as far as they are written.
 
-ghost use Rattle.std.specs.Prelude.{◌≡◌, ◌+◌, ◌≤◌, ◌<◌, ◌^◌, ◌++◌, ℕ, List, length, OnOk, OnErr, IfOk, IfErr};
+ghost use Rattle.std.specs.Prelude.{◌≡◌, ◌+◌, ◌≤◌, ◌<◌, ◌^◌, ◌++◌, ℕ, List, length, OnOk, IfOk, IfErr};
 ghost use Rattle.std.specs.List.{All, concat};
 ghost use Rattle.ats_proof.specs.Written.{after, writing};
 ghost use Rattle.ats_catalog_bytes.specs.Value.{proof_fields};
