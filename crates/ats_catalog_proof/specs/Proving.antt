@@ -22,8 +22,8 @@ use Rattle.ats_catalog_proof.specs.declared.fault.CatalogProveFault.TheVariants.
 abbrev pub asked_of : ℕ → List Ranked → ℕ → Share
 asked_of r ranking i = share_of (shares_of (λ _. Tra) r ranking) i
 
--- The first pass has taken the archives of a catalog. The roots are written, and the proofs of the first shards, each the
--- honest one of its share.
+-- The first pass has taken the archives of a catalog. Their roots are written, and the proofs of the first shards.
+-- Each proof is the honest one of its share.
 pub record IsProving (H : List ℕ → List ℕ) (catalog : List Archive) (query : List (List ℕ × ℕ)) (r : ℕ) (state : ProvingState) : Type 0 where
   pub ranked : IsRankingOf H catalog query r state.ranking
   pub proofs : List (List ℕ)
