@@ -1,10 +1,10 @@
 -- The largest of a growing list are kept by count.
-use Rattle.std.proofs.Common.{◌≡◌, ◌≢◌, ◌<◌, ◌≤◌, ◌↔◌, ◌+◌, ◌*◌, ℕ, suc, cond, leb, List, [], ◌∷◌, length, set, get_or, replicate, refl, sym, ap, ◌∙◌, subst, inl, inr, arith, length-set}
+use Rattle.std.proofs.Common.{◌≡◌, ◌≢◌, ◌<◌, ◌≤◌, ◌↔◌, ◌+◌, ◌-◌, ◌*◌, ℕ, suc, cond, leb, List, [], ◌∷◌, length, take, drop, set, get_or, replicate, refl, sym, ap, ◌∙◌, subst, inl, inr, arith, length-set, length-take, length-drop}
 use Rattle.std.specs.List.Sorted.{IsPermutation}
 use Rattle.std.specs.List.{SwappedAt}
 use Rattle.std.proofs.lemmas.Bool.{cases_order, cases_lt, le-leb, lt-leb}
-use Rattle.std.proofs.lemmas.List.{get_or_default, get_or_past, get_or-set_same, get_or-set_other}
-use Rattle.std.proofs.lemmas.List.Sums.{count_by-le-length, sum_by-cons, sum_by-le-sum_by, sum_by-set}
+use Rattle.std.proofs.lemmas.List.{get_or_default, get_or_past, get_or-take, get_or-set_same, get_or-set_other}
+use Rattle.std.proofs.lemmas.List.Sums.{count_by-le-length, sum_by-cons, sum_by-le-sum_by, sum_by-set, sum_by-take-drop}
 use Rattle.std.proofs.lemmas.List.Folds.{sum_by-replicate}
 use Rattle.std.proofs.lemmas.List.Sorted.{length_permutation, sum_by-IsPermutation}
 use Rattle.ats_bound.specs.Inner.Best.{AreBest, Ascends, AscendsBut, count_at_least}
@@ -109,6 +109,12 @@ count_all least (x ∷ xs) each =
       count_all least xs (λ i inside. each (suc i) (omega (arith, inside))),
     )
 
+-- if each is lower, none is
+pub count_none : (least : ℕ) (xs : List ℕ) → ((i : ℕ) → i < length xs → get_or xs i 0 < least) → count_at_least least xs ≡ 0
+count_none least [] low = refl
+count_none least (x ∷ xs) low =
+    omega (arith, count_cons least x xs, reached_no least x (low 0 (omega arith)), count_none least xs (λ i inside. low (suc i) (omega (arith, inside))))
+
 -- if one is lower, fewer are
 pub count_short : (least : ℕ) (xs : List ℕ) (i : ℕ) → i < length xs → get_or xs i 0 < least → count_at_least least xs < length xs
 count_short least xs i inside low =
@@ -184,6 +190,23 @@ module _ (kept : List ℕ) (ascends : Ascends kept) where
           | inl less ↦ absurd (omega (arith, is, many, count_short threshold kept 0 some less))
           | inr le ↦ le
         ],
+      )
+
+  -- if the value that so many follow is low, no more reach the number
+  pub few_reached : (all : List ℕ) (least many : ℕ) → many < length kept → get_or kept (length kept - 1 - many) 0 < least → AreBest kept all → count_at_least least all ≤ many
+  few_reached all least many inside low best =
+      let before : ℕ = length kept - many in
+      let none : count_at_least least (take before kept) ≡ 0 = count_none least (take before kept) (λ i within.
+      let early : i < before = omega (arith, within, length-take before kept) in
+      omega (arith, get_or-take before kept i 0 early, ascends i (length kept - 1 - many) (omega (arith, early, inside)) (omega (arith, inside)), low)) in
+      omega (
+        arith,
+        none,
+        sum_by-take-drop (reached least) kept before,
+        count_by-le-length (λ x. leb least x) (drop before kept),
+        length-drop before kept,
+        best.each least (omega (arith, low)),
+        inside,
       )
 
   -- the value after the first is reached by all that are kept but one; past the end of one value stands the most that

@@ -37,3 +37,5 @@ mod AllShown
 mod Within
 mod Shares
 mod Once
+mod Halted
+mod Crowded

@@ -151,15 +151,20 @@ count_lows t lanes (m ∷ met) each =
       later,
     )
 
+-- what is summed over the brackets of the cut is summed over the slots
+pub sums_agree : (f : Bracket → ℕ) (lanes : List ShownLane) (met : List Met) (brackets : List Bracket) → AreMetDocuments lanes met → AreBracketsOf lanes brackets
+    → sum_by f brackets ≡ sum_by f (brackets_of lanes met)
+sums_agree f lanes met brackets known are =
+    same_sum f (bracket lanes) brackets (brackets_of lanes met)
+    (risen_are_distinct brackets are.rise) (known_distinct lanes met known.once)
+    (λ q. are.met q ∙ sym (known.named q) ∙ sym (has_of lanes q met))
+    are.each (All-map (λ (b : Bracket). b ≡ bracket lanes b.doc) (λ (m : Met). bracket lanes m.doc) met (λ i d inside. refl))
+
 -- as many brackets of the cut as lower bounds that are known reach a number
 pub counts_agree : (t : ℕ) (lanes : List ShownLane) (met : List Met) (brackets : List Bracket) → AreMetDocuments lanes met → AreBracketsOf lanes brackets
     → count_by (λ (b : Bracket). leb t b.lo) brackets ≡ count_at_least t (lows met)
 counts_agree t lanes met brackets known are =
-    same_sum (λ (b : Bracket). cond (leb t b.lo) 1 0) (bracket lanes) brackets (brackets_of lanes met)
-    (risen_are_distinct brackets are.rise) (known_distinct lanes met known.once)
-    (λ q. are.met q ∙ sym (known.named q) ∙ sym (has_of lanes q met))
-    are.each (All-map (λ (b : Bracket). b ≡ bracket lanes b.doc) (λ (m : Met). bracket lanes m.doc) met (λ i d inside. refl))
-    ∙ count_lows t lanes met known.each
+    sums_agree (λ (b : Bracket). cond (leb t b.lo) 1 0) lanes met brackets known are ∙ count_lows t lanes met known.each
 
 -- the bracket of what a slot knows is among the brackets of the cut
 pub bracket_of_slot : (lanes : List ShownLane) (met : List Met) (brackets : List Bracket) (slot : ℕ) → AreMetDocuments lanes met → AreBracketsOf lanes brackets → slot < length met

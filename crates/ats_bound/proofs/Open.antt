@@ -9,9 +9,8 @@ use Rattle.ats_bound.specs.Settled.{ArePicks, IsSettled, bracket_at, last_row, r
 use Rattle.ats_bound.specs.Inner.Best.{count_at_least}
 use Rattle.std.proofs.lemmas.List.Elements.{All-head, All-tail}
 use Rattle.std.proofs.lemmas.List.Sums.{sum_by-cons, sum_by-le-sum_by}
-use Rattle.ats_bound.proofs.Kept.{count_set, reached, reached_no}
+use Rattle.ats_bound.proofs.Kept.{count_set, count_none, reached, reached_no}
 use Rattle.ats_bound.proofs.Places.{position_of, times_other}
-use Rattle.ats_bound.proofs.Reach.{count_none}
 
 module _ (brackets : List Bracket) (picks : List ℕ) (threshold r : ℕ) (proper : AreBrackets brackets) (are : ArePicks brackets picks) (is : IsSettled brackets picks threshold r)
     (more : 0 < threshold) (rows : 0 < r) where
@@ -77,7 +76,7 @@ module _ (brackets : List Bracket) (picks : List ℕ) (threshold r : ℕ) (prope
 
 -- ---- how many values reach a number
 
-pub sum_of_map : (g : ℕ → ℕ) (f : ℕ → ℕ) (xs : List ℕ) → sum_by g (map f xs) ≡ sum_by (λ x. g (f x)) xs
+pub sum_of_map : {X Y : Type 0} (g : Y → ℕ) (f : X → Y) (xs : List X) → sum_by g (map f xs) ≡ sum_by (λ x. g (f x)) xs
 sum_of_map g f [] = refl
 sum_of_map g f (x ∷ xs) = omega (arith, sum_by-cons g (f x) (map f xs), sum_by-cons (λ y. g (f y)) x xs, sum_of_map g f xs)
 

@@ -118,3 +118,11 @@ pub use Rattle.ats_bound.proofs.Ending.{looked_up_are_narrow}
 pub use Rattle.ats_bound.proofs.Within.{first_within_exists}
 -- no place is chosen twice
 pub use Rattle.ats_bound.proofs.Once.{chosen_once}
+-- what a walk reports of the chosen answer is whether any answer is settled
+pub use Rattle.ats_bound.proofs.Halted.{told_exactly}
+-- a walk that stopped where some answer is settled, or at threshold 0, is at its end
+pub use Rattle.ats_bound.proofs.Halted.{settled_there}
+-- a walk that stopped at a cut within floors has the rows that are asked for
+pub use Rattle.ats_bound.proofs.Halted.{within_there}
+-- a walk that did not stop up to the last cut stops nowhere
+pub use Rattle.ats_bound.proofs.Halted.{nowhere_after}

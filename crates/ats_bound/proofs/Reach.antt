@@ -21,16 +21,11 @@ use Rattle.ats_bound.specs.Inner.Scored.{AreScored, exact_brackets}
 use Rattle.ats_bound.specs.QuickTest.{PassesQuickTest, TellsSettled}
 use Rattle.ats_bound.specs.Settled.{AreDistinct, ArePicks, IsSettled, bracket_at, last_row, row}
 use Rattle.ats_bound.specs.Chosen.{AreBrackets, IsChosen, place_cmp}
-use Rattle.ats_bound.proofs.Kept.{count_cons, count_permuted, count_set, reached, reached_no, reached_yes}
+use Rattle.ats_bound.proofs.Kept.{count_cons, count_permuted, count_set, count_none, reached, reached_no, reached_yes}
 use Rattle.ats_bound.proofs.One.{one_bracketing}
 use Rattle.ats_bound.proofs.Places.{stands, times-cons, times_same}
 use Rattle.ats_bound.proofs.Exactly.{lows_are, scored_proper}
 use Rattle.ats_bound.proofs.Chain.{chosen_are_picks, even_settled, falls}
-
-pub count_none : (least : ℕ) (xs : List ℕ) → ((i : ℕ) → i < length xs → get_or xs i 0 < least) → count_at_least least xs ≡ 0
-count_none least [] low = refl
-count_none least (x ∷ xs) low =
-    omega (arith, count_cons least x xs, reached_no least x (low 0 (omega arith)), count_none least xs (λ i inside. low (suc i) (omega (arith, inside))))
 
 -- of numbers that fall, those from place r - 1 on are low if the one there is
 pub few_reach : (least : ℕ) (xs : List ℕ) (k : ℕ) → ((i j : ℕ) → i < j → j < length xs → get_or xs j 0 ≤ get_or xs i 0) → k < length xs → get_or xs k 0 < least

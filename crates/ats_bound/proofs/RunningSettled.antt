@@ -1,5 +1,5 @@
 -- What a walk from the shown entries only reports of settled answers.
-use Rattle.std.proofs.Common.{◌≡◌, ◌<◌, ◌≤◌, ◌-◌, ◌↔◌, ℕ, Bool, true, false, List, length, map, get_or, refl, sym, ap, subst, ◌∙◌, arith, inl, inr}
+use Rattle.std.proofs.Common.{◌≡◌, ◌<◌, ◌≤◌, ◌-◌, ◌↔◌, ℕ, Bool, true, false, List, length, length-take, map, get_or, refl, sym, ap, subst, ◌∙◌, arith, inl, inr}
 use Rattle.std.specs.Prelude.{leb, count_by}
 use Rattle.std.specs.Bool.{IsTrue}
 use Rattle.std.specs.List.{All}
@@ -12,6 +12,7 @@ use Rattle.ats_bound.specs.Inner.Best.{AreBest, count_at_least}
 use Rattle.ats_bound.specs.Chosen.{AreBrackets, IsChosen}
 use Rattle.ats_bound.specs.Cut.{ShownLane, bracket, threshold}
 use Rattle.ats_bound.specs.Cursors.{Stage, shown_on}
+use Rattle.ats_bound.specs.Floors.{AreWithin, Floors, IsWithinBy}
 use Rattle.ats_bound.specs.Inner.MetDocuments.{lows, met_at}
 use Rattle.ats_bound.specs.QuickTest.{PassesQuickTest, TellsSettled}
 use Rattle.ats_bound.specs.Inner.Running.{DoOverlap, IsAround, IsOpenAt, IsRunning}
@@ -21,6 +22,7 @@ use Rattle.ats_bound.proofs.Chain.{chosen_are_picks, chosen_is_settled, even_set
 use Rattle.ats_bound.proofs.Kept.{count_short, reached}
 use Rattle.ats_bound.proofs.MetBrackets.{bracket_of_slot, counts_agree}
 use Rattle.ats_bound.proofs.One.{are_brackets, one_bracketing, risen_are_distinct}
+use Rattle.ats_bound.proofs.Once.{chosen_once}
 use Rattle.ats_bound.proofs.OneAnswer.{one_chosen}
 use Rattle.ats_bound.proofs.Open.{above_least, few_above, full, no_overlap, found, sum_of_map}
 use Rattle.ats_bound.proofs.Reach.{count_lows, settled_passes}
@@ -87,7 +89,7 @@ module _ (brackets : List Bracket) (picks : List ℕ) (threshold r : ℕ) (prope
 
 -- ---- the state of the walk
 
-module _ (stage : Stage) (rows : ℕ) (met : List Met) (best : List ℕ) (run : IsRunning stage rows met best) (least : ℕ)
+module _ (stage : Stage) (rows : ℕ) (met : List Met) (best : List ℕ) (run : IsRunning stage rows met best) (some : 1 ≤ rows) (least : ℕ)
     (tells : (all : List ℕ) (t : ℕ) → AreBest best all → 1 ≤ t → (t ≤ least) ↔ (length best ≤ count_at_least t all)) where
   abbrev all : List ShownLane
   all = shown_on stage
@@ -119,31 +121,31 @@ module _ (stage : Stage) (rows : ℕ) (met : List Met) (best : List ℕ) (run : 
     low_of_last = (last_row can.brackets can.answer).lo
 
     last_low : low_of_last ≤ least
-    last_low = (reach_least can.brackets low_of_last can.bounded (last_some can.brackets can.answer threshold_here rows proper can.inside can.settled (omega (arith, more)) (omega (arith, run.some)))).1
-        (many_reach can.brackets can.answer threshold_here rows proper can.inside can.settled (omega (arith, more)) (omega (arith, run.some)))
+    last_low = (reach_least can.brackets low_of_last can.bounded (last_some can.brackets can.answer threshold_here rows proper can.inside can.settled (omega (arith, more)) (omega (arith, some)))).1
+        (many_reach can.brackets can.answer threshold_here rows proper can.inside can.settled (omega (arith, more)) (omega (arith, some)))
 
     last_high : 1 ≤ least → least ≤ low_of_last
     last_high positive = elim (cases_lt low_of_last least) [
       | inr le ↦ le
       | inl less ↦
-          let few = few_go_above can.brackets can.answer threshold_here rows proper can.inside can.settled (omega (arith, more)) (omega (arith, run.some)) least less in
+          let few = few_go_above can.brackets can.answer threshold_here rows proper can.inside can.settled (omega (arith, more)) (omega (arith, some)) least less in
           absurd (omega (arith, few, (reach_least can.brackets least can.bounded positive).0 (omega arith)))
     ]
 
     no_around : (i : ℕ) → i < length can.brackets → IsAround least (bracket_at can.brackets i) → ⊥
     no_around i inside around =
         let high : least ≤ low_of_last = last_high (omega (arith, around.0)) in
-        elim (found can.brackets can.answer threshold_here rows proper can.inside can.settled (omega (arith, more)) (omega (arith, run.some)) i inside) [
+        elim (found can.brackets can.answer threshold_here rows proper can.inside can.settled (omega (arith, more)) (omega (arith, some)) i inside) [
           | inr out ↦ omega (arith, out, last_low, around.1)
           | inl here ↦
-              let row_high = above_least can.brackets can.answer threshold_here rows proper can.inside can.settled (omega (arith, more)) (omega (arith, run.some)) here.0 here.1 in
+              let row_high = above_least can.brackets can.answer threshold_here rows proper can.inside can.settled (omega (arith, more)) (omega (arith, some)) here.0 here.1 in
               omega (arith, rw here.2 at row_high, high, around.0)
         ]
 
     no_overlapping : (i j : ℕ) → i < length can.brackets → j < length can.brackets → DoOverlap least (bracket_at can.brackets i) (bracket_at can.brackets j) → ⊥
     no_overlapping i j low also over =
         let differ : i ≡ j → ⊥ = λ same. over.0 (ap (λ n. (bracket_at can.brackets n).doc) same) in
-        let both = no_overlap can.brackets can.answer threshold_here rows proper can.inside can.settled (omega (arith, more)) (omega (arith, run.some)) i j low also differ over.1 over.2 in
+        let both = no_overlap can.brackets can.answer threshold_here rows proper can.inside can.settled (omega (arith, more)) (omega (arith, some)) i j low also differ over.1 over.2 in
         elim over.3 [
           | inl first ↦ omega (arith, both.0, last_low, first)
           | inr second ↦ omega (arith, both.1, last_low, second)
@@ -160,7 +162,45 @@ module _ (stage : Stage) (rows : ℕ) (met : List Met) (best : List ℕ) (run : 
           no_overlapping first.0 second.0 first.1 second.1 (subst (λ (a : Bracket). DoOverlap least a (bracket_at can.brackets second.0)) (sym first.2) (subst (DoOverlap least (bracket all (met_at met two.0).doc)) (sym second.2) two.4))
     ]
 
+-- ---- what is asked of a shard
+
+-- the brackets and the chosen answer of a cut are within the floors exactly if those of any other hand are
+pub within_exactly : (stage : Stage) (floors : Floors) (brackets : List Bracket) (picks : List ℕ) (told : Bool) → AreBracketsOf (shown_on stage) brackets
+    → IsChosen brackets (length floors.spans) picks → (IsTrue told ↔ AreWithin brackets picks (threshold (shown_on stage)) floors)
+    → IsTrue told ↔ IsWithinBy bracket stage.lanes floors stage.cut
+within_exactly stage floors brackets picks told bounded chosen test =
+    let here : ℕ = threshold (shown_on stage) in (
+      λ yes. record { brackets = brackets; bounded = bounded; answer = picks; chosen = chosen; within = test.0 yes },
+      λ is.
+          let same : is.brackets ≡ brackets = one_bracketing bracket (shown_on stage) is.brackets brackets is.bounded bounded in
+          let theirs : IsChosen brackets (length floors.spans) is.answer = subst (λ (bs : List Bracket). IsChosen bs (length floors.spans) is.answer) same is.chosen in
+          let answer : is.answer ≡ picks = one_chosen brackets (length floors.spans) is.answer picks (risen_are_distinct brackets bounded.rise) theirs chosen in
+          let within : AreWithin brackets is.answer here floors = subst (λ (bs : List Bracket). AreWithin bs is.answer here floors) same is.within in
+          test.1 (subst (λ (ps : List ℕ). AreWithin brackets ps here floors) answer within),
+    )
+
+pub within_no : (stage : Stage) (floors : Floors) → (IsWithinBy bracket stage.lanes floors stage.cut → ⊥) → IsTrue false ↔ IsWithinBy bracket stage.lanes floors stage.cut
+within_no stage floors cannot = (λ clash. absurd (cc), λ is. absurd (cannot is))
+
 -- ---- what is reported
+
+-- an answer of no rows is settled
+pub tells_no_rows : (stage : Stage) (rows : ℕ) → rows ≡ 0 → TellsSettled bracket stage.lanes rows stage.cut true
+tells_no_rows stage rows none = record {
+  chosen = λ brackets picks bounded chosen.
+      let size : length picks ≡ rows = omega (arith, ap length chosen.first, length-take rows chosen.all, none) in (
+        λ _. record {
+          once = chosen_once brackets rows picks chosen;
+          most = omega (arith, size);
+          whole = inl size;
+          falling = λ k low. absurd (omega (arith, low, size, none));
+          rest = λ i out some. absurd (omega (arith, some, size, none));
+          unmet = λ some more. absurd (omega (arith, some, size, none));
+        },
+        λ _. refl,
+      );
+  any = λ can. refl;
+}
 
 pub tells_no : (stage : Stage) (rows : ℕ) → (CanSettleBy bracket stage.lanes rows stage.cut → ⊥) → TellsSettled bracket stage.lanes rows stage.cut false
 tells_no stage rows cannot = record {

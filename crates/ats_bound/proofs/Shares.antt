@@ -13,7 +13,8 @@ use Rattle.ats_bound.specs.declared.share.Share.{Share}
 use Rattle.ats_bound.specs.Chosen.{IsChosen, place_cmp}
 use Rattle.ats_bound.specs.Cursors.{Stage, shown_on}
 use Rattle.ats_bound.specs.Cut.{threshold}
-use Rattle.ats_bound.specs.Floors.{AreWithin, IsInSpan, IsWithinBy, Span, floors_of_share, span_at}
+use Rattle.ats_bound.specs.declared.span.Span.{Span}
+use Rattle.ats_bound.specs.Floors.{AreWithin, IsInSpan, IsWithinBy, floors_of_share, span_at}
 use Rattle.ats_bound.specs.Inner.Best.{AreBest, count_at_least}
 use Rattle.ats_bound.specs.Inner.Scored.{AreScored, exact_brackets}
 use Rattle.ats_bound.specs.Schedule.{AreBracketsBy, Bounding}
@@ -21,9 +22,9 @@ use Rattle.ats_bound.specs.Scored.{exact}
 use Rattle.ats_bound.specs.Settled.{bracket_at, row}
 use Rattle.ats_bound.proofs.Chain.{later_is_outside, later_place}
 use Rattle.ats_bound.proofs.Exactly.{scored_proper}
-use Rattle.ats_bound.proofs.Kept.{count_all, reached}
+use Rattle.ats_bound.proofs.Kept.{count_all, count_none, reached}
 use Rattle.ats_bound.proofs.One.{one_bracketing}
-use Rattle.ats_bound.proofs.Reach.{count_none, count_scores, counted, even_brackets, fall, few_reach, lows, lows_at, lows_size}
+use Rattle.ats_bound.proofs.Reach.{count_scores, counted, even_brackets, fall, few_reach, lows, lows_at, lows_size}
 use Rattle.ats_bound.proofs.Sorted.{chosen_exists}
 
 -- the most that a score can be

@@ -7,11 +7,7 @@ use Rattle.ats_bound.specs.Chosen.{IsChosen}
 use Rattle.ats_bound.specs.Cut.{threshold}
 use Rattle.ats_bound.specs.Schedule.{AreBracketsBy, Bounding, IsFirstCut, WholeLane, shown}
 use Rattle.ats_bound.specs.Settled.{IsOutside, bracket_at, row}
-
--- the least and the most that a row may score
-pub record Span : Type 0 where
-  pub lower : ℕ
-  pub upper : ℕ
+use Rattle.ats_bound.specs.declared.span.Span.{Span}
 
 -- the rows that are asked, a span for each, and the floor, which nothing else may score above
 pub record Floors : Type 0 where

@@ -1,6 +1,6 @@
 //! The largest of a growing list of values.
 
-ghost use Rattle.std.specs.Prelude.{◌≡◌, ◌<◌, ◌≤◌, ◌+◌, ◌^◌, ◌↔◌, ◌∷◌, [], ℕ, List, length, slice_index, slice_set, IfOk};
+ghost use Rattle.std.specs.Prelude.{◌≡◌, ◌<◌, ◌≤◌, ◌+◌, ◌^◌, ◌↔◌, ◌∷◌, [], ℕ, List, length, slice_index, slice_set, IfOk, IsTrue};
 ghost use Rattle.std.specs.List.Sorted.{IsPermutation};
 ghost use Rattle.ats_bound.specs.Inner.Best.{AreBest, Ascends, AscendsBut, count_at_least};
 
@@ -68,6 +68,14 @@ impl Best {
             → (threshold ≤ result) ↔ (length self.now ≤ count_at_least threshold all + 1) }
     {
         self.values.get(1).copied().unwrap_or(u64::MAX)
+    }
+
+    /// Whether at most so many of the values added are at least this one; no if more are than are kept.
+    pub(crate) fn lacks(&self, many: usize, least: u64) -> bool
+        ensures { IsTrue result → (all : List ℕ) → AreBest self.now all → count_at_least least all ≤ many }
+    {
+        let kept = self.values.len();
+        many < kept && self.values[kept - 1 - many] < least
     }
 
     // Replaces the value at a place by one that is no lower.

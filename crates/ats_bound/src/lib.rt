@@ -9,9 +9,10 @@
 //! entries only, [`Scored`] is given the scores. [`settled`] returns exactly whether the rules of a settled answer
 //! hold, and if any answer is settled, the one from [`choose`] is. Each walk of whole lists takes the turns of one
 //! schedule, reports at each cut exactly whether that answer is settled there, and ends, at one cut with one answer. A
-//! settled answer is a top answer if the brackets contain the scores. A [`Share`] is what one shard of a catalog is
-//! asked for, and [`Scored`] reports exactly whether a cut shows it. A [`Work`] begins with zero marks. How places are
-//! looked up, brackets sorted, what is known kept and open answers found may change freely.
+//! settled answer is a top answer if the brackets contain the scores. What one shard of a catalog is asked for is a
+//! [`Share`] if it goes by scores, else a [`Span`] for each row and a floor: [`Scored`] and [`Running`] report exactly
+//! whether a cut shows it. A [`Work`] begins with zero marks. How places are looked up, brackets sorted, what is known
+//! kept and open answers found may change freely.
 //!
 //! ```
 //! use ats_impact::Top;
@@ -42,8 +43,10 @@ mod running;
 mod scored;
 mod settling;
 mod share;
+mod span;
 mod turns;
 mod unsettled;
+mod unshown;
 mod walk;
 mod work;
 
@@ -62,5 +65,6 @@ pub use running::Running;
 pub use scored::Scored;
 pub use settling::settled;
 pub use share::Share;
+pub use span::Span;
 pub use walk::Walk;
 pub use work::{Mark, Work};

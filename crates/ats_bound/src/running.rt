@@ -1,9 +1,10 @@
 //! A walk with no random access, from cut to cut.
 
-ghost use Rattle.std.specs.Prelude.{◌≡◌, ◌↔◌, ◌<◌, ◌≤◌, ◌+◌, ◌*◌, ◌^◌, ℕ, [], List, length, set, slice_index, slice_index_or, MatchOption, IsNone, IfOk, OnOk, OnErr};
+ghost use Rattle.std.specs.Prelude.{◌≡◌, ◌↔◌, ◌<◌, ◌≤◌, ◌+◌, ◌*◌, ◌^◌, ℕ, [], List, length, set, slice_index, slice_index_or, MatchOption, IsNone, IsTrue, IfOk, OnOk, OnErr};
 ghost use Rattle.ats_bound.specs.declared.bracket.Bracket.{Bracket as Bounded};
 ghost use Rattle.ats_bound.specs.Inner.Best.{AreBest};
 ghost use Rattle.ats_bound.specs.Cut.{bracket, threshold};
+ghost use Rattle.ats_bound.specs.Floors.{IsWithinBy};
 ghost use Rattle.ats_bound.specs.Inner.MetDocuments.{AreMetDocuments, Meets, lows, met_at};
 ghost use Rattle.ats_bound.specs.Schedule.{AreAllShown, AreBracketsOf, AreWholeLanes, IsNextLane, IsOpen, IsWholeLane, first_cut, shown, whole_lane, whole_lanes, most_gain};
 ghost use Rattle.ats_bound.specs.Running.{shown_in};
@@ -12,13 +13,15 @@ ghost use Rattle.ats_bound.specs.Stopped.{IsStoppedAt};
 
 use crate::best::Best;
 use crate::bounds::brackets;
-use crate::choosing::choose;
+use crate::choosing::choose_rows;
 use crate::cursors::{Cursors, Gain};
 use crate::lane::Lane;
 use crate::memory::OutOfMemory;
 use crate::met_documents::{Met, MetDocuments};
-use crate::settling::settled;
+use crate::settling::{rows_settled, within};
+use crate::span::Span;
 use crate::unsettled::Unsettled;
+use crate::unshown::Unshown;
 use crate::walk::Walk;
 use ats_impact::Top;
 use std::alloc::Global;
@@ -33,10 +36,11 @@ use std::marker::Model;
 pub struct Running<'a> {
     alloc: Global,
     cursors: Cursors<'a>,
-    top: Top,
+    rows: usize,
     known: MetDocuments,
     best: Best,
     unsettled: Unsettled,
+    unshown: Unshown,
 }
 
 impl<'a> Model for Running<'a> {
@@ -45,9 +49,9 @@ impl<'a> Model for Running<'a> {
 
     ghost Value = { Standing };
 
-    ghost view = { λ r. record { lanes = r.cursors.lanes; rows = r.top; cut = r.cursors.cut } };
+    ghost view = { λ r. record { lanes = r.cursors.lanes; rows = r.rows; cut = r.cursors.cut } };
 
-    ghost invariant = { λ r. IsRunning r.cursors r.top r.known r.best };
+    ghost invariant = { λ r. IsRunning r.cursors r.rows r.known r.best };
 }
 
 // The digit of a list among those that show which lists name a document.
@@ -141,17 +145,46 @@ impl<'a> Running<'a> {
         ensures { IfOk result (λ running.
             running ≡ record { lanes = whole_lanes lanes.now; rows = top; cut = first_cut (whole_lanes lanes.now) }) }
     {
+        Running::begin(alloc, lanes, top.get() as usize, Unsettled::new(alloc))
+    }
+
+    /// Begins there for an answer of so many rows, which may be none. Such a walk ends by [`Running::within`], and
+    /// looks for nothing that [`Running::settled`] would need to be quick.
+    pub fn with_rows(
+        alloc: Global,
+        lanes: &[Lane<'a>],
+        rows: usize,
+    ) -> Result<Running<'a>, OutOfMemory>
+        requires { AreWholeLanes (whole_lanes lanes.now) }
+        ensures { IfOk result (λ running.
+            running ≡ record { lanes = whole_lanes lanes.now; rows = rows; cut = first_cut (whole_lanes lanes.now) }) }
+    {
+        Running::begin(alloc, lanes, rows, Unsettled::idle(alloc))
+    }
+
+    // Begins at the first cut.
+    fn begin(
+        alloc: Global,
+        lanes: &[Lane<'a>],
+        rows: usize,
+        unsettled: Unsettled,
+    ) -> Result<Running<'a>, OutOfMemory>
+        requires { AreWholeLanes (whole_lanes lanes.now) }
+        ensures { IfOk result (λ running.
+            running ≡ record { lanes = whole_lanes lanes.now; rows = rows; cut = first_cut (whole_lanes lanes.now) }) }
+    {
         let cursors = Cursors::new(alloc, lanes)?;
         let mut known = MetDocuments::new(alloc);
-        let mut best = Best::new(alloc, top.get() as usize)?;
+        let mut best = Best::new(alloc, rows.max(1))?;
         meet_first(lanes, &mut known, &mut best)?;
         Ok(Running {
             alloc,
             cursors,
-            top,
+            rows,
             known,
             best,
-            unsettled: Unsettled::new(alloc),
+            unsettled,
+            unshown: Unshown::new(alloc),
         })
     }
 
@@ -189,6 +222,10 @@ impl<'a> Running<'a> {
         ensures wanted { OnErr result ((brackets : List Bounded) → AreBracketsOf (shown_in self.now) brackets
             → PassesQuickTest brackets (threshold (shown_in self.now)) self.now.rows) }
     {
+        let rows = self.rows;
+        if rows == 0 {
+            return Ok(true);
+        }
         let threshold = self.cursors.threshold();
         if threshold == 0 {
             return Ok(true);
@@ -201,8 +238,36 @@ impl<'a> Running<'a> {
             return Ok(false);
         }
         let brackets = brackets(self.alloc, &self.cursors, &self.known)?;
-        let picks = choose(self.alloc, brackets.as_slice(), self.top)?;
-        Ok(settled(brackets.as_slice(), picks.as_slice(), threshold, self.top))
+        let picks = choose_rows(self.alloc, brackets.as_slice(), rows)?;
+        Ok(rows_settled(brackets.as_slice(), picks.as_slice(), threshold, rows))
+    }
+
+    /// Whether the chosen answer is all that is asked of a shard: it has a row for each span, which lies within it, and
+    /// no other document can score above the floor.
+    pub fn within(&mut self, spans: &[Span], floor: u64) -> Result<bool, OutOfMemory>
+        ensures within { IfOk result (λ within. IsTrue within
+            ↔ IsWithinBy bracket self.old.lanes (record { spans = spans.now; floor = floor }) self.old.cut) }
+        ensures same { self.new ≡ self.old }
+    {
+        let threshold = self.cursors.threshold();
+        if threshold > floor {
+            return Ok(false);
+        }
+        if self
+            .unshown
+            .find(&self.cursors, &self.known, &self.best, spans, floor)
+        {
+            return Ok(false);
+        }
+        let brackets = brackets(self.alloc, &self.cursors, &self.known)?;
+        let picks = choose_rows(self.alloc, brackets.as_slice(), spans.len())?;
+        Ok(within(
+            brackets.as_slice(),
+            picks.as_slice(),
+            threshold,
+            spans,
+            floor,
+        ))
     }
 
     /// The cut, the brackets of the documents met there by document ascending, the chosen answer and the
@@ -213,14 +278,15 @@ impl<'a> Running<'a> {
         let Running {
             alloc,
             cursors,
-            top,
+            rows,
             known,
             best: _,
             unsettled: _,
+            unshown: _,
         } = self;
         let threshold = cursors.threshold();
         let brackets = brackets(alloc, &cursors, &known)?;
-        let picks = choose(alloc, brackets.as_slice(), top)?;
+        let picks = choose_rows(alloc, brackets.as_slice(), rows)?;
         Ok(Walk {
             cut: cursors.cut(),
             brackets,

@@ -2,9 +2,11 @@
 
 ghost use Rattle.std.specs.Prelude.{◌≡◌, ◌⊎◌, ◌↔◌, ◌+◌, ◌<◌, ◌≤◌, ℕ, IsTrue, length};
 ghost use Rattle.ats_impact.specs.Rank.{times};
+ghost use Rattle.ats_bound.specs.Floors.{AreWithin, IsInSpan, span_at};
 ghost use Rattle.ats_bound.specs.Settled.{bracket_at, row, AreDistinct, ArePicks, HaveDistinctDocs, IsOutside, IsSettled};
 
 use crate::bracket::Bracket;
+use crate::span::Span;
 use ats_impact::Top;
 
 // The bracket of a pick.
@@ -91,15 +93,53 @@ fn rest_is_within(brackets: &[Bracket], picks: &[u32], score: u64) -> bool
     true
 }
 
-/// Whether the picks are an answer that no document outside it, met or not, can change.
-///
-/// The brackets are those of all met documents, and the threshold is the most that any other document can score.
-pub fn settled(brackets: &[Bracket], picks: &[u32], threshold: u64, top: Top) -> bool
+/// Whether a bracket lies within a span.
+pub(crate) fn is_in_span(bracket: Bracket, span: Span) -> bool
+    ensures { IsTrue result ↔ IsInSpan span bracket }
+{
+    span.lower <= bracket.lo && bracket.hi <= span.upper
+}
+
+// Whether each row is within its span.
+fn rows_are_in_spans(brackets: &[Bracket], picks: &[u32], spans: &[Span]) -> bool
+    requires picks { ArePicks brackets.now picks.now }
+    requires size { length picks.now ≡ length spans.now }
+    ensures { IsTrue result ↔ ((k : ℕ) → k < length picks.now
+        → IsInSpan (span_at spans.now k) (row brackets.now picks.now k)) }
+{
+    for (k, pick) in picks.iter().enumerate() {
+        if !is_in_span(picked(brackets, *pick), spans[k]) {
+            return false;
+        }
+    }
+    true
+}
+
+/// Whether the picks are as many rows as there are spans, each within its own, and no other document can score above
+/// the floor.
+pub(crate) fn within(
+    brackets: &[Bracket],
+    picks: &[u32],
+    threshold: u64,
+    spans: &[Span],
+    floor: u64,
+) -> bool
+    requires picks { ArePicks brackets.now picks.now }
+    ensures { IsTrue result ↔ AreWithin brackets.now picks.now threshold
+        (record { spans = spans.now; floor = floor }) }
+{
+    if threshold > floor || picks.len() != spans.len() {
+        return false;
+    }
+    rows_are_in_spans(brackets, picks, spans) && rest_is_within(brackets, picks, floor)
+}
+
+/// Whether the picks are an answer of at most so many rows that no document outside it, met or not, can change.
+pub(crate) fn rows_settled(brackets: &[Bracket], picks: &[u32], threshold: u64, rows: usize) -> bool
     requires picks { ArePicks brackets.now picks.now }
     requires distinct { HaveDistinctDocs brackets.now }
-    ensures { IsTrue result ↔ IsSettled brackets.now picks.now threshold top }
+    ensures { IsTrue result ↔ IsSettled brackets.now picks.now threshold rows }
 {
-    let rows = top.get() as usize;
     if picks.len() > rows || !rows_fall(brackets, picks) || !are_distinct(picks) {
         return false;
     }
@@ -111,4 +151,15 @@ pub fn settled(brackets: &[Bracket], picks: &[u32], threshold: u64, top: Top) ->
     }
     let score = picked(brackets, picks[picks.len() - 1]).lo;
     threshold <= score && rest_is_within(brackets, picks, score)
+}
+
+/// Whether the picks are an answer that no document outside it, met or not, can change.
+///
+/// The brackets are those of all met documents, and the threshold is the most that any other document can score.
+pub fn settled(brackets: &[Bracket], picks: &[u32], threshold: u64, top: Top) -> bool
+    requires picks { ArePicks brackets.now picks.now }
+    requires distinct { HaveDistinctDocs brackets.now }
+    ensures { IsTrue result ↔ IsSettled brackets.now picks.now threshold top }
+{
+    rows_settled(brackets, picks, threshold, top.get() as usize)
 }

@@ -22,10 +22,11 @@ struct Row {
 /// One slot, or two, whose brackets show that no answer is settled, as long as they do.
 ///
 /// Lower bounds never fall, upper bounds never rise, and the smallest of the best scores never falls. So a document
-/// whose upper bound is not above that score is never checked again: [`Unsettled::look`] goes once through the slots, and
-/// keeps those of the best documents apart. What it misses costs only time.
+/// whose upper bound is not above that score is never checked again: [`Unsettled::look`] goes once through the slots,
+/// and keeps those of the best documents apart. What it misses costs only time.
 #[derive(Drop)]
 pub(crate) struct Unsettled {
+    idle: bool,
     around: usize,
     left: usize,
     right: usize,
@@ -35,7 +36,17 @@ pub(crate) struct Unsettled {
 
 impl Unsettled {
     pub(crate) fn new(alloc: Global) -> Unsettled {
+        Unsettled::of(alloc, false)
+    }
+
+    /// One that searches for nothing, for a walk that does not end at a settled answer.
+    pub(crate) fn idle(alloc: Global) -> Unsettled {
+        Unsettled::of(alloc, true)
+    }
+
+    fn of(alloc: Global, idle: bool) -> Unsettled {
         Unsettled {
+            idle,
             around: 0,
             left: 0,
             right: 0,
@@ -65,7 +76,7 @@ impl Unsettled {
     pub(crate) fn look(&mut self, cursors: &Cursors<'_>, known: &MetDocuments, score: u64)
         requires { AreMetDocuments (shown_on cursors.now) known.now }
     {
-        if cursors.threshold() > score || self.stands(cursors, known, score) {
+        if self.idle || cursors.threshold() > score || self.stands(cursors, known, score) {
             return;
         }
         if self.sweep(cursors, known, score) {

@@ -4,7 +4,8 @@ use Rattle.std.proofs.lemmas.List.{get_or-replicate, length-map, length-replicat
 use Rattle.ats_terms.specs.Query.{IsQuery}
 use Rattle.ats_commit.specs.Archive.{Archive, archive_of}
 use Rattle.ats_bound.specs.Chosen.{IsChosen}
-use Rattle.ats_bound.specs.Floors.{Floors, IsInSpan, IsWithinBy, Span, floors_of_share, span_at}
+use Rattle.ats_bound.specs.declared.span.Span.{Span}
+use Rattle.ats_bound.specs.Floors.{Floors, IsInSpan, IsWithinBy, floors_of_share, span_at}
 use Rattle.ats_bound.specs.Schedule.{Bounding, IsCut, IsFirstCut, IsScheduled, WholeLane}
 use Rattle.ats_bound.specs.Settled.{row}
 use Rattle.ats_bound.proofs.Public.{chosen_are_picks, have_entries, scheduled_is_cut}

@@ -11,7 +11,8 @@ use Rattle.std.proofs.lemmas.List.Sorted.{Contains-permutation}
 use Rattle.ats_impact.specs.Rank.{times}
 use Rattle.ats_bound.specs.declared.bracket.Bracket.{Bracket}
 use Rattle.ats_bound.specs.Chosen.{IsChosen}
-use Rattle.ats_bound.specs.Floors.{AreWithin, Floors, IsInSpan, Span, span_at}
+use Rattle.ats_bound.specs.declared.span.Span.{Span}
+use Rattle.ats_bound.specs.Floors.{AreWithin, Floors, IsInSpan, span_at}
 use Rattle.ats_bound.specs.Settled.{IsOutside, bracket_at, row}
 use Rattle.ats_bound.proofs.Public.{chosen_are_picks, stands}
 use Rattle.ats_proof.specs.declared.record.Algorithm.{Algorithm}

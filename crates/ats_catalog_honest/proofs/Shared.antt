@@ -7,7 +7,8 @@ use Rattle.std.proofs.lemmas.List.{length-map, get_or-map}
 use Rattle.std.proofs.lemmas.List.Elements.{All-nil, All-cons, All-map, All-weaker}
 use Rattle.std.proofs.lemmas.List.Sums.{sum_by-cons}
 use Rattle.ats_bound.proofs.Public.{counted_places, times_other, times_same}
-use Rattle.ats_bound.specs.Floors.{Span, span_at}
+use Rattle.ats_bound.specs.declared.span.Span.{Span}
+use Rattle.ats_bound.specs.Floors.{span_at}
 use Rattle.ats_impact.specs.Rank.{times}
 use Rattle.ats_impact.specs.declared.rank.Row.{Row}
 use Rattle.ats_catalog_check.specs.Merge.{Shown, shown_at, in_shard, merge, merged, merged_from, last_of, floor, greatest_rest, IsSettled}

@@ -3,7 +3,8 @@
 use Rattle.std.specs.Prelude.{◌≡◌, ◌⊎◌, ◌<◌, ◌≤◌, ◌+◌, ◌==◌, ℕ, List, [], ◌∷◌, length, map, slice_index_or, if◌then◌else◌}
 use Rattle.std.specs.List.{All}
 use Rattle.ats_bound.specs.declared.share.Share.{Share}
-use Rattle.ats_bound.specs.Floors.{Floors, Span, span_at}
+use Rattle.ats_bound.specs.declared.span.Span.{Span}
+use Rattle.ats_bound.specs.Floors.{Floors, span_at}
 use Rattle.ats_impact.specs.declared.rank.Row.{Row}
 use Rattle.ats_catalog_check.specs.Merge.{Shown, shown_at}
 

@@ -1,17 +1,15 @@
 -- The honest proof of a walk shows the walk's end, and is the only one.
 use Rattle.std.proofs.Common.{◌≡◌, ℕ, List, length, sym, subst}
-use Rattle.ats_bound.specs.declared.share.Share.{Share}
 use Rattle.ats_bound.specs.declared.walk.Walk.{Walk}
 use Rattle.ats_bound.specs.Chosen.{IsChosen}
-use Rattle.ats_bound.specs.Floors.{IsWithinBy, floors_of_share}
+use Rattle.ats_bound.specs.Floors.{Floors, IsWithinBy}
 use Rattle.ats_bound.specs.Ranked.{docs_of}
 use Rattle.ats_bound.specs.Schedule.{AreBracketsBy, IsFirstCut, shown}
 use Rattle.ats_commit.specs.Archive.{Archive}
 use Rattle.ats_proof.specs.Written.{Written}
 use Rattle.ats_proof.specs.declared.record.Algorithm.{Algorithm}
-use Rattle.ats_proof.specs.declared.record.Algorithm.TheVariants.{Tra}
 use Rattle.ats_proof.specs.Value.{Proof}
-use Rattle.ats_honest.specs.Honest.{IsHonestBy, IsHonestShare}
+use Rattle.ats_honest.specs.Honest.{IsHonestBy, IsHonestWithin}
 use Rattle.ats_honest.specs.Lanes.{bounding, lanes_of}
 use Rattle.ats_honest.proofs.Public.{one_honest}
 use Rattle.ats_prover.specs.Inner.Writing.{IsShownWith, IsWritten}
@@ -31,6 +29,7 @@ honest_end Stops rows H archive query algorithm end before now first bounds pick
       answer = subst (IsChosen end.brackets rows) (sym is.rows) picks;
     })
 
-pub one_share : (H : List ℕ → List ℕ) (archive : Archive) (query : List (List ℕ × ℕ)) (share : Share) (a b : Proof) → IsHonestShare H archive query share a → IsHonestShare H archive query share b → a ≡ b
-one_share H archive query share a b =
-    one_honest (IsWithinBy (bounding Tra (lanes_of archive.texts query)) (lanes_of archive.texts query) (floors_of_share share)) (length (floors_of_share share).spans) H archive query Tra a b
+pub one_within : (H : List ℕ → List ℕ) (archive : Archive) (query : List (List ℕ × ℕ)) (floors : Floors) (algorithm : Algorithm) (a b : Proof)
+    → IsHonestWithin H archive query floors algorithm a → IsHonestWithin H archive query floors algorithm b → a ≡ b
+one_within H archive query floors algorithm a b =
+    one_honest (IsWithinBy (bounding algorithm (lanes_of archive.texts query)) (lanes_of archive.texts query) floors) (length floors.spans) H archive query algorithm a b

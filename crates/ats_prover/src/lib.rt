@@ -2,9 +2,10 @@
 //!
 //! A proof shows where the query's terms are in the dictionary, the fronts of their lists up to the cut at which the
 //! walk ends, and the chosen answer. It has the digests that bind all of this to the root. A TRA proof also shows
-//! where the terms are in each met document. A shard of a catalog proves what it is asked for, at the first cut that
-//! shows it. A caller can also give the cut; such a proof has no answer. Nothing is hashed here: the hash function is a
-//! type without a call, and the index lends the digests of all nodes of its trees.
+//! where the terms are in each met document. A shard of a catalog proves what it is asked for, by TRA a share and by
+//! TNRA rows within spans, at the first cut that shows it. A caller can also give the cut; such a proof has no answer.
+//! Nothing is hashed here: the hash function is a type without a call, and the index lends the digests of all nodes of
+//! its trees.
 //!
 //! The room stands on `ats_honest`, which defines honest proofs, on `ats_index` for the archive, on `ats_tnra` and
 //! `ats_tra` for the walks, and on `ats_proof` for the bytes. The bytes spell the one honest proof, or the one proof of
@@ -42,4 +43,4 @@ mod walking;
 pub use ats_proof::Algorithm;
 pub use fault::ProveFault;
 pub use found::entry_counts;
-pub use proving::{prove, prove_cut_within, prove_share_within, prove_within};
+pub use proving::{prove, prove_cut_within, prove_share_within, prove_spans_within, prove_within};

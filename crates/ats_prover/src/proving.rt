@@ -1,6 +1,6 @@
 //! The proof of a query's best documents.
 
-ghost use Rattle.std.specs.Prelude.{◌≡◌, ◌≤◌, ◌<◌, ◌^◌, ℕ, List, length, map, IfOk, IfErr, IfSome, MatchBool, MatchOption, OnOk};
+ghost use Rattle.std.specs.Prelude.{◌≡◌, ◌≤◌, ◌<◌, ◌^◌, length, map, IfOk, IfErr, IfSome, MatchBool, MatchOption, OnOk};
 ghost use Rattle.ats_commit.specs.Own.{AreTexts};
 ghost use Rattle.ats_bound.specs.Ranked.{docs_of};
 ghost use Rattle.ats_bound.specs.Schedule.{AreBracketsBy, IsCut, shown, whole_lanes};
@@ -8,9 +8,9 @@ ghost use Rattle.ats_proof.specs.declared.record.Algorithm.TheVariants.{Tnra};
 ghost use Rattle.ats_proof.specs.Value.{Proof};
 ghost use Rattle.ats_prover.specs.declared.fault.ProveFault.TheVariants.{OutOfMemory as MemoryWanted};
 ghost use Rattle.ats_honest.specs.Lanes.{bounding, lanes_of};
-ghost use Rattle.ats_honest.specs.Honest.{AreMet, IsCutProved, IsCutShown, IsHonest, IsHonestShare, IsProved, IsShareProved, length_of};
+ghost use Rattle.ats_honest.specs.Honest.{AreMet, IsCutProved, IsCutShown, IsHonest, IsHonestShare, IsHonestWithin, IsProved, IsProvedBy, IsShareProved, length_of};
 ghost use Rattle.ats_prover.specs.Inner.Found.{AreFound};
-ghost use Rattle.ats_prover.specs.Fault.{IsAnswerWithin, IsCutFault, IsFault, IsFoundWithin, IsShareFault};
+ghost use Rattle.ats_prover.specs.Fault.{IsAnswerWithin, IsCutFault, IsFault, IsFaultBy, IsFoundWithin, IsShareFault};
 ghost use Rattle.ats_prover.specs.Inner.Writing.{IsCutWritten, IsShownWith, IsWritten};
 
 use crate::answer::{documents, write_answer};
@@ -23,7 +23,7 @@ use crate::prefixes::write_lists;
 use crate::shown::keep_positions;
 use crate::walking::{walk, walk_share};
 use ats_base::Bytes;
-use ats_bound::{Share, Walk};
+use ats_bound::{Share, Span, Walk};
 use ats_grammar::MAX_PROOF;
 use ats_hash::HashKind;
 use ats_impact::Top;
@@ -202,6 +202,32 @@ fn write_share<H: HashKind>(
     Ok(true)
 }
 
+// Writes the whole honest proof of rows within spans, and returns whether some cut shows them.
+fn write_spans<H: HashKind>(
+    alloc: Global,
+    writer: &mut ProofWriter,
+    index: &Index<H>,
+    query: &Query,
+    spans: &[Span],
+    floor: u64,
+) -> Result<bool, OutOfMemory>
+    requires rows { length spans.now ≤ 1000 }
+    requires space { writer.old.asked ≡ 0 }
+    ensures { IfOk result (λ shown. MatchBool shown
+        (IsWritten (IsHonestWithin H.hash index.now query.now (record { spans = spans.now; floor = floor }) Tnra)
+        writer.old writer.new)
+        ((proof : Proof)
+        → ¬ IsHonestWithin H.hash index.now query.now (record { spans = spans.now; floor = floor }) Tnra proof)) }
+{
+    let terms = query_terms(alloc, index, query)?;
+    let found = ats_tnra::walk_within(alloc, &terms.lists.lanes, spans, floor)?;
+    let Some(end) = found else {
+        return Ok(false);
+    };
+    write_end(alloc, writer, index, query, &terms, &end, Algorithm::Tnra)?;
+    Ok(true)
+}
+
 // Writes the whole proof of a cut, with no answer.
 fn write_unanswered<H: HashKind>(
     alloc: Global,
@@ -274,8 +300,8 @@ pub fn prove_within<H: HashKind>(
     }
 }
 
-/// The honest proof by [`Algorithm::Tra`] of all that is asked of a shard of a catalog, of at most `limit` bytes; `None`
-/// if no cut shows it, as fewer documents than are asked score at least the floor, or more score above it.
+/// The honest proof by [`Algorithm::Tra`] of all that is asked of a shard of a catalog, of at most `limit` bytes;
+/// `None` if no cut shows it.
 pub fn prove_share_within<H: HashKind>(
     alloc: Global,
     index: &Index<H>,
@@ -296,6 +322,42 @@ pub fn prove_share_within<H: HashKind>(
     records_are_joined();
     let mut writer = ProofWriter::new(alloc, limit);
     if !write_share(alloc, &mut writer, index, query, share)? {
+        return Ok(None);
+    }
+    match writer.finish() {
+        Ok(bytes) => Ok(Some(bytes)),
+        Err(length) => Err(ProveFault::ProofTooLong { length }),
+    }
+}
+
+/// The honest proof by [`Algorithm::Tnra`] of all that is asked of a shard of a catalog, of at most `limit` bytes: a
+/// row for each span, which lies within it, and no other document that can score above the floor. `None` if no cut
+/// shows it.
+pub fn prove_spans_within<H: HashKind>(
+    alloc: Global,
+    index: &Index<H>,
+    query: &Query,
+    spans: &[Span],
+    floor: u64,
+    limit: u64,
+) -> Result<Option<Bytes>, ProveFault>
+    requires rows { length spans.now ≤ 1000 }
+    requires limit { limit ≤ 2 ^ 26 }
+    ensures ok { IfOk result (λ found. MatchOption found
+        ((proof : Proof)
+        → ¬ IsHonestWithin H.hash index.now query.now (record { spans = spans.now; floor = floor }) Tnra proof)
+        (IsProvedBy
+        (IsHonestWithin H.hash index.now query.now (record { spans = spans.now; floor = floor }) Tnra))) }
+    ensures within { IfOk result (λ found. IfSome found (λ bytes. length bytes ≤ limit)) }
+    ensures err { IfErr result (IsFaultBy
+        (IsHonestWithin H.hash index.now query.now (record { spans = spans.now; floor = floor }) Tnra) limit) }
+    ensures size { (proof : Proof)
+        → IsHonestWithin H.hash index.now query.now (record { spans = spans.now; floor = floor }) Tnra proof
+        → IsFoundWithin limit (length_of proof) result }
+{
+    records_are_joined();
+    let mut writer = ProofWriter::new(alloc, limit);
+    if !write_spans(alloc, &mut writer, index, query, spans, floor)? {
         return Ok(None);
     }
     match writer.finish() {

@@ -1,14 +1,14 @@
 //! A reply that no command asks for in this way, proofs at a limit, and proofs of shares.
 
-ghost use Rattle.std.specs.Prelude.{◌≤◌, ◌^◌};
+ghost use Rattle.std.specs.Prelude.{◌≤◌, ◌^◌, length};
 
 use ats_base::{Bytes, Link, MemLink};
-use ats_bound::Share;
+use ats_bound::{Share, Span};
 use ats_hash::{Hash32, HashKind, Sha};
 use ats_impact::Top;
 use ats_index::Index;
 use ats_proof::Algorithm;
-use ats_prover::{ProveFault, prove, prove_share_within, prove_within};
+use ats_prover::{ProveFault, prove, prove_share_within, prove_spans_within, prove_within};
 use ats_terms::{Query, QueryFault};
 use ats_tests::foxes;
 use ats_wire::{AskFault, ask_once};
@@ -64,8 +64,8 @@ fn query_of(alloc: Global, text: &str) -> Result<Query, QueryFault> {
     Query::read(alloc, text)
 }
 
-// Whether the proof has this many bytes, is returned within this limit and within one with room to spare, and is refused
-// within one byte less.
+// Whether the proof has this many bytes, is returned within this limit and within one with room to spare, and is
+// refused within one byte less.
 fn fits<H: HashKind>(
     alloc: Global,
     index: &Index<H>,
@@ -136,5 +136,45 @@ fn shares_have_lengths<H: Hash32>(alloc: Global) -> Result<bool, Fail> {
 #[test]
 fn a_share_is_shown_or_reported_missing(rt: HostRuntime) -> Result<(), Fail> {
     assert!(rt; shares_have_lengths::<Sha>(rt.alloc())?);
+    Ok(())
+}
+
+// Whether some cut shows these rows of `red hen` by TNRA.
+fn are_shown<H: HashKind>(
+    alloc: Global,
+    index: &Index<H>,
+    spans: &[Span],
+    floor: u64,
+) -> Result<bool, Fail>
+    requires { length spans.now ≤ 1000 }
+{
+    let query = query_of(alloc, "red hen")?;
+    let proof = prove_spans_within(alloc, index, &query, spans, floor, 67_108_864)?;
+    Ok(proof.is_some())
+}
+
+fn spans_are_shown<H: Hash32>(alloc: Global) -> Result<bool, Fail> {
+    let index = Index::<H>::build_plain(alloc, foxes(alloc)?)?;
+    let first = Span {
+        lower: 9_696,
+        upper: u64::MAX,
+    };
+    let other = Span {
+        lower: 6_378,
+        upper: 9_696,
+    };
+    Ok(
+        are_shown(alloc, &index, &[], 13_014)?
+            && are_shown(alloc, &index, &[first], 9_696)?
+            && are_shown(alloc, &index, &[first, other, other], 0)?
+            && !are_shown(alloc, &index, &[], 13_013)?
+            && !are_shown(alloc, &index, &[other], 9_696)?
+            && !are_shown(alloc, &index, &[first, other], 6_377)?,
+    )
+}
+
+#[test]
+fn spans_are_shown_or_reported_missing(rt: HostRuntime) -> Result<(), Fail> {
+    assert!(rt; spans_are_shown::<Sha>(rt.alloc())?);
     Ok(())
 }

@@ -83,6 +83,7 @@ fn types_of_walks_cross_threads() {
     cross::<ats_bound::Work>();
     cross::<ats_bound::Mark>();
     cross::<ats_bound::Share>();
+    cross::<ats_bound::Span>();
     cross::<ats_bound::Running<'static>>();
     cross::<ats_bound::Scored<'static>>();
     cross::<ats_tra::OutOfMemory>();

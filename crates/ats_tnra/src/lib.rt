@@ -2,8 +2,9 @@
 //!
 //! The room stands on the running walk of `ats_bound` and the number of rows of `ats_impact`. It takes turn after turn
 //! until the chosen answer is settled. [`walk`] returns the first cut of the schedule at which any answer is settled,
-//! with the brackets of the documents met there, the chosen answer among them, and the threshold. How the walk is
-//! driven may change freely; the cut and the answer may not.
+//! with the brackets of the documents met there, the chosen answer among them, and the threshold. [`walk_within`]
+//! returns the same of the first cut that shows what a shard of a catalog is asked for, a [`ats_bound::Span`] for each
+//! of its rows, if there is one. How the walk is driven may change freely; the cut and the answer may not.
 //!
 //! ```
 //! use ats_bound::Lane;
@@ -23,4 +24,4 @@ mod memory;
 mod walking;
 
 pub use memory::OutOfMemory;
-pub use walking::walk;
+pub use walking::{walk, walk_within};

@@ -12,12 +12,11 @@ use Rattle.ats_bound.specs.Floors.{AreWithin, Floors, IsFirstWithinBy, IsWithinB
 use Rattle.ats_bound.specs.Inner.Stopped.{IsEnd}
 use Rattle.ats_bound.specs.Lookup.{Table, looked_up}
 use Rattle.ats_bound.specs.Narrow.{AreNarrow}
-use Rattle.ats_bound.specs.Schedule.{AreAllShown, AreBracketsBy, Bounding, CanSettleBy, IsNextLane, WholeLane, shown}
+use Rattle.ats_bound.specs.Schedule.{AreBracketsBy, Bounding, WholeLane, shown}
 use Rattle.ats_bound.specs.Scored.{ScoredStanding, exactly}
-use Rattle.ats_bound.specs.QuickTest.{TellsSettled}
 use Rattle.ats_bound.specs.Settled.{ArePicks, IsSettled}
 use Rattle.ats_bound.specs.Stopped.{IsStoppedAt}
-use Rattle.ats_bound.proofs.Public.{chosen_are_picks, chosen_exists, end_at, first_here, not_all_shown, one_bracketing, one_chosen, risen_are_distinct, stops_nowhere, whole_settled}
+use Rattle.ats_bound.proofs.Public.{first_here, nowhere_after, settled_there, within_there}
 use Rattle.ats_tra.specs.declared.walking.End.{End}
 use Rattle.ats_tra.specs.declared.walking.End.TheVariants.{Settled, Within}
 use Rattle.ats_tra.specs.Inner.Ends.{EndsAt, HasRun}
@@ -31,22 +30,6 @@ looked_there table lanes stage brackets same is known =
     let Here : List WholeLane → Type 0 = λ ls. AreBracketsBy (exactly (score_by table lanes)) (shown ls stage.cut) brackets in
     let size : length stage.cut ≡ length lanes = subst (λ (ls : List WholeLane). length stage.cut ≡ length ls) same is.cut.size in
     scores_are_looked table lanes stage.cut brackets size (subst Here same known)
-
--- what a walk with known scores reports is whether any answer is settled
-pub told_exactly : (bounds : Bounding) (lanes : List WholeLane) (r : ℕ) (cut : List ℕ) (told : Bool) (brackets : List Bracket)
-    → AreBracketsBy bounds (shown lanes cut) brackets → TellsSettled bounds lanes r cut told → IsTrue told ↔ CanSettleBy bounds lanes r cut
-told_exactly bounds lanes r cut told brackets of tells = (
-  λ yes.
-      let chosen = chosen_exists brackets r in
-      record {
-        brackets = brackets;
-        bounded = of;
-        answer = chosen.0;
-        inside = chosen_are_picks brackets r chosen.0 chosen.1;
-        settled = (tells.chosen brackets chosen.0 of chosen.1).0 yes;
-      },
-  tells.any,
-)
 
 -- what the test of an end reports of a stage holds of the lists that it is about
 pub test_there : (bounds : Bounding) (lanes : List WholeLane) (end : End) (walk : ScoredStanding) (told : Bool) → walk.stage.lanes ≡ lanes
@@ -77,15 +60,7 @@ finished bounds lanes r walk end same rows cut brackets limit chosen inside best
 pub settled_end : (bounds : Bounding) (lanes : List WholeLane) (r : ℕ) (walk : ScoredStanding) (end : Walk) → AreNarrow bounds → HasRun bounds lanes (Settled r) walk
     → IsStoppedAt bounds lanes r walk.stage.cut end → IsEnd bounds lanes r end
 settled_end bounds lanes r walk end narrow run stopped =
-    end_at bounds lanes r walk.stage.cut end run.reached stopped (elim run.ended [
-      | inl can ↦
-          let same : can.brackets ≡ end.brackets = one_bracketing bounds (shown lanes walk.stage.cut) can.brackets end.brackets can.bounded stopped.brackets in
-          let inside : ArePicks end.brackets can.answer = subst (λ (bs : List Bracket). ArePicks bs can.answer) same can.inside in
-          let settled : IsSettled end.brackets can.answer (threshold (shown lanes walk.stage.cut)) r =
-          subst (λ (bs : List Bracket). IsSettled bs can.answer (threshold (shown lanes walk.stage.cut)) r) same can.settled in
-          stopped.best can.answer inside (rw stopped.threshold settled)
-      | inr last ↦ whole_settled bounds lanes r walk.stage.cut end (narrow (shown lanes walk.stage.cut)) stopped last.0
-    ])
+    settled_there bounds lanes r walk.stage.cut end narrow run.reached stopped (elim run.ended [ inl can ↦ inl can | inr last ↦ inr last.0 ])
 
 -- the end at a share that is shown
 module _ (bounds : Bounding) (lanes : List WholeLane) (share : Share) (walk : ScoredStanding) (run : HasRun bounds lanes (Within share) walk) where
@@ -98,18 +73,10 @@ module _ (bounds : Bounding) (lanes : List WholeLane) (share : Share) (walk : Sc
   pub rows_shown : (end : Walk) → IsStoppedAt bounds lanes share.rows walk.stage.cut end → IsWithinBy bounds lanes floors walk.stage.cut
       → AreWithin end.brackets end.picks end.threshold floors
   rows_shown end stopped is =
-      let here : ℕ = threshold (shown lanes walk.stage.cut) in
-      let same : is.brackets ≡ end.brackets = one_bracketing bounds (shown lanes walk.stage.cut) is.brackets end.brackets is.bounded stopped.brackets in
-      let theirs : IsChosen end.brackets share.rows is.answer =
-      subst (λ (n : ℕ). IsChosen end.brackets n is.answer) (length-replicate share.rows (record { lower = share.floor; upper = 0xffff_ffff_ffff_ffff }))
-      (subst (λ (bs : List Bracket). IsChosen bs (length floors.spans) is.answer) same is.chosen) in
-      let answer : is.answer ≡ end.picks = one_chosen end.brackets share.rows is.answer end.picks (risen_are_distinct end.brackets stopped.brackets.rise) theirs stopped.chosen in
-      rw stopped.threshold (subst (λ (picks : List ℕ). AreWithin end.brackets picks here floors) answer (subst (λ (bs : List Bracket). AreWithin bs is.answer here floors) same is.within))
+      let size : length floors.spans ≡ share.rows = length-replicate share.rows (record { lower = share.floor; upper = 0xffff_ffff_ffff_ffff }) in
+      within_there bounds lanes floors walk.stage.cut end (subst (λ (n : ℕ). IsStoppedAt bounds lanes n walk.stage.cut end) (sym size) stopped) is
 
   pub never_shown : (IsWithinBy bounds lanes floors walk.stage.cut → ⊥) → (cut : List ℕ) → IsFirstWithinBy bounds lanes floors cut → ⊥
-  never_shown cannot = stops_nowhere (IsWithinBy bounds lanes floors) lanes walk.stage.cut run.reached cannot (λ i next. elim run.ended [
-    | inl is ↦ cannot is
-    | inr last ↦
-        not_all_shown walk.stage i run.stands (subst (λ (ls : List WholeLane). IsNextLane ls walk.stage.cut i) (sym run.lanes_are) next)
-        (subst (λ (ls : List WholeLane). AreAllShown (shown ls walk.stage.cut)) (sym run.lanes_are) last.1)
-  ])
+  never_shown cannot =
+      let stands : IsStage (record { lanes = lanes; cut = walk.stage.cut }) = subst (λ (ls : List WholeLane). IsStage (record { lanes = ls; cut = walk.stage.cut })) run.lanes_are run.stands in
+      nowhere_after (IsWithinBy bounds lanes floors) lanes walk.stage.cut stands run.reached cannot (elim run.ended [ inl is ↦ inl is | inr last ↦ inr last.1 ])

@@ -112,7 +112,7 @@ pub fn walk<A: RandomAccess>(
 }
 
 /// The first cut of the schedule of [`walk`] at which all that is asked of a shard is shown, with the same beside it;
-/// `None` if no cut shows it, as the shard has no such rows or more of them.
+/// `None` if no cut shows it.
 pub fn walk_within<A: RandomAccess>(
     alloc: Global,
     lanes: &[Lane<'_>],

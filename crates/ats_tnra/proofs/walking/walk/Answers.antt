@@ -1,34 +1,25 @@
-use Rattle.std.proofs.Common.{◌≡◌}
-use Rattle.std.proofs.lemmas.Result.{IfOk-weaker}
+use Rattle.std.proofs.Common.{List, inl, inr}
 use Rattle.ats_bound.specs.declared.walk.Walk.{Walk}
-use Rattle.ats_bound.specs.Chosen.{IsChosen}
-use Rattle.ats_bound.specs.Cut.{bracket, threshold}
-use Rattle.ats_bound.specs.Settled.{IsSettled}
-use Rattle.ats_bound.specs.Schedule.{AreBracketsBy, IsFirstSettledBy, shown, whole_lanes}
+use Rattle.ats_bound.specs.Cut.{bracket}
 use Rattle.ats_bound.specs.Inner.Stopped.{IsEnd}
+use Rattle.ats_bound.specs.Running.{Standing}
+use Rattle.ats_bound.specs.Schedule.{WholeLane, whole_lanes}
+use Rattle.ats_bound.specs.Stopped.{IsStoppedAt}
+use Rattle.ats_bound.proofs.Public.{brackets_are_narrow, settled_there}
+use Rattle.ats_tnra.proofs.Turns.{stopped_of}
 use Rattle.ats_tnra.proofs.walking.walk.Goals as goal
 
-pub returns-clause-cut : goal.returns-clause-cut
-returns-clause-cut c =
-    IfOk-weaker c.first_settled.result (IsEnd bracket (whole_lanes c.args.lanes.now) c.args.top) (λ (walk : Walk). IsFirstSettledBy bracket (whole_lanes c.args.lanes.now) c.args.top walk.cut)
-    (λ walk end. end.first) c.first_settled.ensures
-
-pub returns-clause-brackets : goal.returns-clause-brackets
-returns-clause-brackets c =
-    IfOk-weaker c.first_settled.result (IsEnd bracket (whole_lanes c.args.lanes.now) c.args.top) (λ (walk : Walk). AreBracketsBy bracket (shown (whole_lanes c.args.lanes.now) walk.cut) walk.brackets)
-    (λ walk end. end.stopped.brackets) c.first_settled.ensures
-
-pub returns-clause-threshold : goal.returns-clause-threshold
-returns-clause-threshold c =
-    IfOk-weaker c.first_settled.result (IsEnd bracket (whole_lanes c.args.lanes.now) c.args.top) (λ (walk : Walk). walk.threshold ≡ threshold (shown (whole_lanes c.args.lanes.now) walk.cut))
-    (λ walk end. end.stopped.threshold) c.first_settled.ensures
-
-pub returns-clause-picks : goal.returns-clause-picks
-returns-clause-picks c =
-    IfOk-weaker c.first_settled.result (IsEnd bracket (whole_lanes c.args.lanes.now) c.args.top) (λ (walk : Walk). IsChosen walk.brackets c.args.top walk.picks)
-    (λ walk end. end.stopped.chosen) c.first_settled.ensures
-
-pub returns-clause-settled : goal.returns-clause-settled
-returns-clause-settled c =
-    IfOk-weaker c.first_settled.result (IsEnd bracket (whole_lanes c.args.lanes.now) c.args.top) (λ (walk : Walk). IsSettled walk.brackets walk.picks walk.threshold c.args.top)
-    (λ walk end. end.settled) c.first_settled.ensures
+pub returns : goal.returns
+returns c =
+    let lanes : List WholeLane = whole_lanes c.args.lanes.now in
+    let walk : Standing = c.in_ok-walk.walk in
+    let end : Walk = c.in_ok-finish.field-0 in
+    let run = c.in_ok-walk.ensures in
+    let stopped : IsStoppedAt bracket lanes c.args.top walk.cut end = stopped_of lanes c.args.top walk end run.lanes_are run.rows c.in_ok-finish.ensures in
+    let is : IsEnd bracket lanes c.args.top end = settled_there bracket lanes c.args.top walk.cut end brackets_are_narrow run.reached stopped (elim run.ended [ inl can ↦ inl can | inr last ↦ inr last.0 ]) in record {
+      cut = is.first;
+      brackets = is.stopped.brackets;
+      threshold = is.stopped.threshold;
+      picks = is.stopped.chosen;
+      settled = is.settled;
+    }

@@ -31,10 +31,9 @@ invariant_of-self-2 c =
     let more : IsOpen stage.lanes stage.cut i = subst (λ (s : Standing). IsOpen s.lanes s.cut i) (sym c.self.view_is) c.requires.more in
     record {
       stands = next_stage stage i c.advance.new.self c.self.invariant.stands inside more c.advance.ensures.lanes c.advance.ensures.cut;
-      some = c.self.invariant.some;
       known =
           next_known stage i c.self.invariant.stands inside more c.self.inside.known c.self.invariant.known c.gain-gain.result.doc c.gain-gain.result.gain c.digit.result
           c.gain-gain.ensures.doc c.gain-gain.ensures.gain c.gain-gain.ensures.few c.digit.ensures c.meet.new.known c.advance.new.self c.advance.ensures.lanes c.advance.ensures.cut c.in_ok-meet.ensures.met;
-      size = c.meet.ensures.size ∙ c.self.invariant.size;
+      size = λ some. c.meet.ensures.size ∙ c.self.invariant.size some;
       greatest = c.in_ok-meet.ensures.best c.self.invariant.greatest;
     }

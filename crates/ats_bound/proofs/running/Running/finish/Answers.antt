@@ -11,8 +11,8 @@ use Rattle.ats_bound.proofs.One.{risen_are_distinct}
 use Rattle.ats_bound.proofs.RunningSettled.{proper_of}
 use Rattle.ats_bound.proofs.running.Running.finish.Goals as goal
 
-pub choose-requires-clause-distinct : goal.choose-requires-clause-distinct
-choose-requires-clause-distinct c = rw c.as_slice.ensures (risen_are_distinct c.in_ok-brackets.brackets c.in_ok-brackets.ensures.rise)
+pub choose_rows-requires : goal.choose_rows-requires
+choose_rows-requires c = rw c.as_slice.ensures (risen_are_distinct c.in_ok-brackets.brackets c.in_ok-brackets.ensures.rise)
 
 pub returns : goal.returns
 returns c =
@@ -20,13 +20,13 @@ returns c =
     let brackets : List Bracket = c.in_ok-brackets.brackets in
     let picks : List ℕ = c.in_ok-picks.picks in
     let walk : Walk = record { cut = c.cut.result; brackets = brackets; picks = picks; threshold = c.threshold-threshold.result } in
-    let chosen : IsChosen brackets c.self.inside.top picks = rw c.as_slice.ensures at c.in_ok-picks.ensures.chosen in
-    let stopped : IsStoppedAt bracket stage.lanes c.self.inside.top stage.cut walk = record {
+    let chosen : IsChosen brackets c.self.inside.rows picks = rw c.as_slice.ensures at c.in_ok-picks.ensures in
+    let stopped : IsStoppedAt bracket stage.lanes c.self.inside.rows stage.cut walk = record {
       cut = c.cut.ensures;
       brackets = c.in_ok-brackets.ensures;
       threshold = c.threshold-threshold.ensures;
       chosen = chosen;
-      inside = chosen_are_picks brackets c.self.inside.top picks chosen;
-      best = λ answer inside settled. chosen_is_settled brackets walk.threshold c.self.inside.top answer picks (proper_of (shown_on stage) brackets c.in_ok-brackets.ensures) inside settled chosen;
+      inside = chosen_are_picks brackets c.self.inside.rows picks chosen;
+      best = λ answer inside settled. chosen_is_settled brackets walk.threshold c.self.inside.rows answer picks (proper_of (shown_on stage) brackets c.in_ok-brackets.ensures) inside settled chosen;
     } in
     subst (λ (s : Standing). IsStoppedAt bracket s.lanes s.rows s.cut walk) c.self.view_is stopped

@@ -3,9 +3,9 @@ use Rattle.std.specs.Bool.{IsTrue}
 use Rattle.ats_bound.specs.Floors.{IsWithinBy, floors_of_share}
 use Rattle.ats_bound.specs.QuickTest.{TellsSettled}
 use Rattle.ats_bound.specs.Schedule.{WholeLane}
+use Rattle.ats_bound.proofs.Public.{told_exactly}
 use Rattle.ats_tra.specs.declared.walking.End.{End}
 use Rattle.ats_tra.specs.Inner.Ends.{EndsAt, rows_of}
-use Rattle.ats_tra.proofs.Turns.{told_exactly}
 use Rattle.ats_tra.proofs.walking.End.is_reached.Goals as goal
 
 pub returns-in-Settled : goal.returns-in-Settled

@@ -1,0 +1,3 @@
+-- What the functions of the room promise one another. No public contract rests on it.
+
+pub mod Ends
