@@ -8,7 +8,6 @@ use Rattle.std.proofs.lemmas.List.Sums.{sum_by-cons}
 use Rattle.ats_grammar.specs.Table.{spelled}
 use Rattle.ats_commit.specs.Archive.{Archive}
 use Rattle.ats_commit.specs.Root.{root_of}
-use Rattle.ats_proof.specs.declared.record.Algorithm.TheVariants.{Tra}
 use Rattle.ats_proof.specs.Value.{IsProof, Proof}
 use Rattle.ats_proof.proofs.Public.{length-spelled}
 use Rattle.ats_honest.specs.Honest.{IsHonestWithin}
@@ -22,7 +21,8 @@ use Rattle.ats_catalog_honest.specs.Shares.{floors_of}
 use Rattle.ats_catalog_proof.specs.Proving.{IsProving, IsTooLongCatalog}
 use Rattle.ats_catalog_proof.specs.ProvingState.{ProvingState}
 use Rattle.ats_catalog_proof.specs.Written.{bytes_of, front_fields}
-use Rattle.ats_catalog_proof.proofs.Shards.{NeedNoEdges, is_catalog}
+use Rattle.ats_catalog_proof.proofs.Asked.{NeedNoEdges, asked_is_share}
+use Rattle.ats_catalog_proof.proofs.Shards.{is_catalog}
 use Rattle.ats_catalog_proof.proofs.Spelling.{front_size}
 
 -- each root with the proof in its place
@@ -120,14 +120,17 @@ module _ (H : List ℕ → List ℕ) (hash_sized : (bytes : List ℕ) → length
   whole = is_catalog H catalog query r state.ranking is.ranked (omega (arith, all, some)) few
 
   abbrev Such : ℕ → Proof → Type 0
-  Such i p = IsHonestWithin H (archive_at catalog i) query (floors_of (shares_of (λ _. Tra) r is.ranked.ranking) i) Tra p
+  Such i p = IsHonestWithin H (archive_at catalog i) query (floors_of (shares_of (λ _. state.algorithm) r is.ranked.ranking) i) state.algorithm p
 
   made : (proofs : List Proof) × AreSpelled Such roots is.proofs proofs
   made = all_spelled Such roots is.proofs same (λ i d low.
-      let proved = is.each i d low in
-      (proved.proof, (edges catalog query r (λ _. Tra) is.ranked.ranking i proved.proof whole is.ranked.valid is.ranked.ranked (omega (arith, low, shards))).1 proved.honest, proved.spells))
+      let proved = is.each i d low in (
+        proved.proof,
+        (asked_is_share H edges catalog query r state.algorithm is.ranked.ranking i proved.proof whole is.ranked.valid is.ranked.ranked (omega (arith, low, shards))).1 proved.honest,
+        proved.spells,
+      ))
 
-  honest : IsHonestFile H catalog query r (λ _. Tra) frames
+  honest : IsHonestFile H catalog query r (λ _. state.algorithm) frames
   honest = record {
     proofs = made.0;
     honest = record {
@@ -148,7 +151,7 @@ module _ (H : List ℕ → List ℕ) (hash_sized : (bytes : List ℕ) → length
   size = omega (arith, length-append (concat (front_fields roots)) (concat (flat_map proof_fields is.proofs)), front_size roots sized, frames_size roots is.proofs same)
 
   -- within the limit they spell the honest file
-  pub proved_whole : (bytes : List ℕ) → bytes ≡ bytes_of roots is.proofs → length bytes ≤ 2 ^ 28 → IsProvedCatalog H catalog query r (λ _. Tra) bytes
+  pub proved_whole : (bytes : List ℕ) → bytes ≡ bytes_of roots is.proofs → length bytes ≤ 2 ^ 28 → IsProvedCatalog H catalog query r (λ _. state.algorithm) bytes
   proved_whole bytes are within =
       let many : length frames ≡ length roots = frames_many roots is.proofs same in
       let fit : AreFrames frames = record {
@@ -161,7 +164,7 @@ module _ (H : List ℕ → List ℕ) (hash_sized : (bytes : List ℕ) → length
       subst (λ (xs : List ℕ). IsCatalogProof xs frames) (bytes_joined roots is.proofs same ∙ sym are) (spells frames fit) in
       record { shards = frames; honest = honest; spells = spell }
 
-  pub proved_long : (n : ℕ) → n ≡ length (bytes_of roots is.proofs) → 2 ^ 28 < n → IsTooLongCatalog H catalog query r n
+  pub proved_long : (n : ℕ) → n ≡ length (bytes_of roots is.proofs) → 2 ^ 28 < n → IsTooLongCatalog H catalog query r state.algorithm n
   proved_long n are beyond = record {
     shards = frames;
     honest = honest;

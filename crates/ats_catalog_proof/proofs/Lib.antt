@@ -1,4 +1,6 @@
+pub mod Public
 mod Sharing
+mod Asked
 mod Taking
 mod Scoring
 mod Steps

@@ -268,26 +268,26 @@ module _ (H : List ℕ → List ℕ) where
       each = All-nil (IsScored (size_in []) (score_in [] query));
       whole = λ one is. absurd (omega (arith, is_there [] one.shard one.doc is.inside));
     };
-    rows = sym (take_all r [] (omega arith));
+    rows = sym (take_all (r + 1) [] (omega arith));
   }
 
   abbrev pub taken : RankingState → List (List ℕ) → List Ranked → RankingState
   taken old roots rows = record { query = old.query; r = old.r; roots = roots; rows = rows }
 
   pub one_ranked : (archive : Archive) (old : RankingState) (root : List ℕ) (roots : List (List ℕ)) (rows : List Ranked) (found : List Row) → AreTexts archive.texts
-      → root ≡ root_of H archive → roots ≡ old.roots ++ root ∷ [] → IsRanking archive.texts old.query old.r found
-      → AreFirst old.r (old.rows ++ in_shard (length old.roots) found) rows → HasRanked H archive old (taken old roots rows)
+      → root ≡ root_of H archive → roots ≡ old.roots ++ root ∷ [] → IsRanking archive.texts old.query (old.r + 1) found
+      → AreFirst (old.r + 1) (old.rows ++ in_shard (length old.roots) found) rows → HasRanked H archive old (taken old roots rows)
   one_ranked archive old root roots rows found texts is_root pushed found_is first = record {
     roots = pushed ∙ ap (λ (d : List ℕ). old.roots ++ d ∷ []) is_root;
     goes = λ catalog query r is.
         let size : length old.roots ≡ length catalog = ap length is.roots ∙ length-map catalog (root_of H) in
-        let own : IsRanking archive.texts query r found =
-        subst (λ (q : List (List ℕ × ℕ)). IsRanking archive.texts q r found) is.asked (subst (λ (t : ℕ). IsRanking archive.texts old.query t found) is.most found_is) in
-        let front : AreFirst r (take r is.ranking ++ in_shard (length catalog) found) rows =
-        subst (λ (xs : List Ranked). AreFirst r (xs ++ in_shard (length catalog) found) rows) is.rows
-        (subst (λ (n : ℕ). AreFirst r (old.rows ++ in_shard n found) rows) size
-        (subst (λ (t : ℕ). AreFirst t (old.rows ++ in_shard (length old.roots) found) rows) is.most first)) in
-        let next = first_more catalog archive query r found is.ranking is.ranked own rows front in record {
+        let own : IsRanking archive.texts query (r + 1) found =
+        subst (λ (q : List (List ℕ × ℕ)). IsRanking archive.texts q (r + 1) found) is.asked (subst (λ (t : ℕ). IsRanking archive.texts old.query (t + 1) found) is.most found_is) in
+        let front : AreFirst (r + 1) (take (r + 1) is.ranking ++ in_shard (length catalog) found) rows =
+        subst (λ (xs : List Ranked). AreFirst (r + 1) (xs ++ in_shard (length catalog) found) rows) is.rows
+        (subst (λ (n : ℕ). AreFirst (r + 1) (old.rows ++ in_shard n found) rows) size
+        (subst (λ (t : ℕ). AreFirst (t + 1) (old.rows ++ in_shard (length old.roots) found) rows) is.most first)) in
+        let next = first_more catalog archive query (r + 1) found is.ranking is.ranked own rows front in record {
           asked = is.asked;
           valid = is.valid;
           most = is.most;

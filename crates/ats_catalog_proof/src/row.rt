@@ -6,7 +6,7 @@ ghost use Rattle.ats_catalog_honest.specs.Ranking.{ranked_cmp};
 ghost use Rattle.ats_catalog_proof.specs.Inner.First.{AreFirst, in_shard};
 
 use crate::memory::OutOfMemory;
-use ats_impact::{Row, Top};
+use ats_impact::Row;
 use std::alloc::Global;
 use std::cmp::Reverse;
 use std::marker::Model;
@@ -80,18 +80,18 @@ fn joined(
     Ok(rows)
 }
 
-/// The first rows of the shards before this one and of its own.
+/// The first `count` rows of the shards before this one and of its own.
 pub(crate) fn first_rows(
     alloc: Global,
     before: &[RankedRow],
     shard: u32,
     found: &[Row],
-    top: Top,
+    count: u32,
 ) -> Result<Vec<RankedRow>, OutOfMemory>
-    ensures { IfOk result (λ rows. AreFirst top (before.now ++ in_shard shard found.now) rows.items) }
+    ensures { IfOk result (λ rows. AreFirst count (before.now ++ in_shard shard found.now) rows.items) }
 {
     let mut rows = joined(alloc, before, shard, found)?;
     sort_rows(&mut rows)?;
-    rows.truncate(top.get() as usize);
+    rows.truncate(count as usize);
     Ok(rows)
 }

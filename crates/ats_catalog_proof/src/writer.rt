@@ -100,6 +100,7 @@ impl CatalogWriter {
             → IfOk result (λ made. (made ≡ bytes) × (length made ≤ 2 ^ 28)) }
         ensures beyond { (bytes : List ℕ) → self ≡ writing (2 ^ 28) bytes
             → IfErr result (λ n. (n ≡ length bytes) × (2 ^ 28 < n)) }
+        ensures within { IfOk result (λ made. length made ≤ 2 ^ 28) }
     {
         match self.kept {
             Some(bytes) => Ok(bytes),
