@@ -17,6 +17,7 @@ from commands import Command
 DOING = {
     "ask": "waiting for {ADDRESS}", "serve": "loading {INDEX} until it prints listening",
     "trial": "proving, checking and auditing 20 queries over 2,000 texts",
+    "prove-catalog": "loading the indexes of {LIST}, twice",
     "grow": "loading {OLDINDEX}, then {NEWINDEX}", "audit-growth": "loading {OLDINDEX}, then {NEWINDEX}",
 }
 VERBS = {"COLLECTION": "indexing", "INDEX": "loading", "PROOF": "checking", "FILE": "checking"}

@@ -8,8 +8,7 @@ prints of each shard, the stored proof that of `prove`, cut by `vectors/make.py`
 the same. Prints what was tried and whether it passed, and `N passed, M failed`; ends with status 0 if nothing failed.
 
 With --real it makes 64 shards of texts of Debian packages that are installed, at least MIB together (256 if not given), and
-prints what each command took and the most memory that it held. `prove-catalog` and `audit-catalog` are run if the program knows
-them, and the servers are started if there is memory for all of them.
+prints what each command took and the most memory that it held. The servers are started if there is memory for all of them.
 """
 
 import argparse
@@ -276,7 +275,7 @@ class Table:
     """What commands took so far, a line for each."""
 
     def __init__(self, tries: Tries) -> None:
-        self.tries, self.known = tries, known_commands(tries)
+        self.tries = tries
         self.needed = 0  # bytes of memory of a server of each shard
         print(f"{'command':40}{'status':>7}{'seconds':>9}{'MiB held':>9}  first line", flush=True)
 
@@ -328,15 +327,6 @@ def real_shards(table: Table, mib: int) -> list[str]:
     return [run.printed.strip() for run in runs]
 
 
-def known_commands(tries: Tries) -> set[str]:
-    """Which commands the program has of those that may be missing."""
-    asked = {"prove-catalog": ["none", "tra", "1", "red", "none"], "audit-catalog": ["none", "1", "red", "none"]}
-    missing = {command for command, words in asked.items() if tries.ask(command, *words).status == 2}
-    for command in sorted(missing):
-        tries.skip(f"{command}: the program does not know it")
-    return asked.keys() - missing
-
-
 def enclose(rows: bytes, exact: bytes) -> bool:
     """Whether each row has bounds of the score of that rank. Of rows that tie, any may be there."""
     both = list(zip(rows.split(b"\n"), exact.split(b"\n")))[:-1]
@@ -349,9 +339,8 @@ def of_file(table: Table, one: Catalog, says: str, query: str) -> bytes:
     size = (one.tries.folder / "proof").stat().st_size
     checked = table.run(f"  catalog of {size:,} bytes", "catalog", one.root, 10, query, "proof")
     one.tries.check(f"{query!r}, {says}: accepted", checked.status == 0)
-    if "audit-catalog" in table.known:
-        audited = table.run("  audit-catalog", "audit-catalog", "indexes", 10, query, "proof")
-        one.tries.check(f"{query!r}, {says}: audited", (audited.status, audited.printed) == (0, checked.printed))
+    audited = table.run("  audit-catalog", "audit-catalog", "indexes", 10, query, "proof")
+    one.tries.check(f"{query!r}, {says}: audited", (audited.status, audited.printed) == (0, checked.printed))
     return checked.printed.encode()
 
 
@@ -395,8 +384,7 @@ def real(tries: Tries, mib: int) -> None:
     (tries.folder / "indexes").write_text("".join(f"real/{shard}.index\n" for shard in range(REAL_SHARDS)))
     (tries.folder / "list").write_text("\n".join(roots))
     table.run("catalog-root", "catalog-root", "list")
-    if "prove-catalog" in table.known:
-        real_proofs(table, Catalog(tries, "real", roots, []))
+    real_proofs(table, Catalog(tries, "real", roots, []))
     if table.needed < free_memory():
         real_answers(table, roots)
     else:

@@ -74,6 +74,8 @@ COMMANDS = [
     Command(["audit-growth", "I", "J", "G"], "grown 3 4\n"),
     Command(["catalog-root", "S"], CATALOG_ROOT + "\n"),
     Command(["catalog", CATALOG_ROOT, "1", QUERY, "C"], "1 0 1 13014 13014\n"),
+    Command(["prove-catalog", "E", "tnra", "1", QUERY, "F"], "catalog 807\n", "F"),
+    Command(["audit-catalog", "E", "1", QUERY, "C"], "1 0 1 13014 13014\n"),
 ]
 
 
@@ -165,6 +167,7 @@ def build(program: str, folder: Path) -> House:
     the first twice."""
     (folder / "X").write_text(TEXTS, encoding="utf-8")
     (folder / "Y").write_text(MORE_TEXTS, encoding="utf-8")
+    (folder / "E").write_text("I\nI\n", encoding="utf-8")
     for words in [["build", "Y", "J"], *(command.words for command in COMMANDS if command.stores)]:
         ended = tracing.run([program, *words], folder=str(folder))
         if ended.status != 0:
@@ -173,7 +176,7 @@ def build(program: str, folder: Path) -> House:
     (folder / "S").write_text(f"{ROOT}\n{ROOT}\n", encoding="utf-8")
     proof = (folder / "P").read_bytes()
     (folder / "C").write_bytes(catalog_file([ROOT, ROOT], [proof, proof[:-6] + b"\0\0"]))  # the second shard does not show the row
-    files = {name: (folder / name).read_bytes() for name in "XYIJPLMNTBGSC"}
+    files = {name: (folder / name).read_bytes() for name in "XYIJPLMNTBGSCEF"}
     return House(program, folder, files, framed(b"\x00" + files["P"]))
 
 

@@ -221,10 +221,9 @@ def statuses_of_the_manual(_: House) -> None:
 
 
 def examples_of_the_manual(house: House) -> None:
-    """Each command of the manual has an example but `catalog` and its audit, whose file no command makes, and all of them, typed in
-    order to the launcher, end with status 0."""
+    """Each command of the manual has an example, and all of them, typed in order to the launcher, end with status 0."""
     names = [command.name for command in manual.commands(manual.FORMATS.read_text(encoding="utf-8"))]
-    expect("commands with an example", sorted([*manual.EXAMPLES, "catalog", "audit-catalog"]), sorted(names))
+    expect("commands with an example", sorted(manual.EXAMPLES), sorted(names))
     with tempfile.TemporaryDirectory() as room:
         shutil.copy(SAMPLE, room)
         path = {**os.environ, "PATH": f"{house.launcher.parent}:{os.environ['PATH']}"}

@@ -54,6 +54,7 @@ COMMANDS = {
     "audit-both": "IsBothAudited",
     "grow": "IsGrowthStored",
     "audit-growth": "IsGrowthAudited",
+    "prove-catalog": "IsCatalogStored",
     "audit-catalog": "IsCatalogAudited",
 }
 

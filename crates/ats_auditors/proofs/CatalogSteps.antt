@@ -8,15 +8,14 @@ use Rattle.ats_plan.specs.Plan.{Plan, Finishes, Gets}
 use Rattle.ats_plan.specs.Runs.{IsDone, IsStopped}
 use Rattle.ats_plan.proofs.Public.{Leads, leads_none, leads_get}
 use Rattle.ats_console.specs.Lists.{IsListOf, IsListStop}
-use Rattle.ats_console.specs.Names.{SpellsName}
+use Rattle.ats_console.specs.Names.{SpellsName, reads_archives}
 use Rattle.ats_console.specs.Steps.{IsRowCount, reads_file, reads_shaped, no_more, comes_to}
 use Rattle.ats_console.specs.Words.{AuditCatalogWords}
 use Rattle.ats_console.specs.declared.stops.Stop.{Stop}
 use Rattle.ats_console.specs.declared.stops.Stop.TheVariants.{Shelf, Memory}
-use Rattle.ats_console.proofs.Public.{leads_ranking, leads_bytes}
+use Rattle.ats_console.proofs.Public.{leads_ranking, leads_bytes, leads_archives, at_archives}
 use Rattle.ats_auditors.specs.Audited.{audits_bytes, catalog_audit}
-use Rattle.ats_auditors.specs.Commands.{IsCatalogAudited, audits_catalog, audit_catalog_plan, reads_archives}
-use Rattle.ats_auditors.proofs.Archives.{leads_archives, at_archives}
+use Rattle.ats_auditors.specs.Commands.{IsCatalogAudited, audits_catalog, audit_catalog_plan}
 
 -- what comes after the archives
 abbrev pub then_audits : (List ℕ → List ℕ) → AuditCatalogWords → List (List ℕ × ℕ) → (bytes : List ℕ) → List Archive → Plan Stop

@@ -21,13 +21,13 @@ use Rattle.ats_console.specs.Kinds.{catalog_kind}
 use Rattle.ats_console.specs.RejectionLines.{line_of_rejection}
 use Rattle.ats_console.specs.declared.stops.Stop.{Stop}
 use Rattle.ats_console.specs.declared.stops.Stop.TheVariants.{Rejected, Collision}
-use Rattle.ats_console.proofs.Public.{Sound, ends, fails, tries, gets, makes, reads, not_input, not_rejected, not_collision, list_one, query_sound, ranking_sound, index_sound, checks_sound, named_sound, names_sound, text_one, both_one, growth_one, catalog_one}
+use Rattle.ats_console.proofs.Public.{Sound, ends, fails, tries, gets, makes, reads, not_input, not_rejected, not_collision, list_one, query_sound, ranking_sound, index_sound, checks_sound, named_sound, names_sound, archives_sound, text_one, both_one, growth_one, catalog_one}
 use Rattle.ats_auditors.specs.Listed.{IsListed, names_of}
 use Rattle.ats_auditors.specs.Gathered.{total}
 use Rattle.ats_auditors.specs.Findings.{Finding, is_refused, is_collision, lines_of_findings}
 use Rattle.ats_auditors.specs.Trial.{IsTrialAccepted, RefusesTrial}
 use Rattle.ats_auditors.specs.Collided.{finds_none}
-use Rattle.ats_auditors.specs.Commands.{auditor_plan, audit_catalog_plan, reads_archives, RejectsShape, PassesSweepLimit, gathers, concludes, audits, sweeps}
+use Rattle.ats_auditors.specs.Commands.{auditor_plan, audit_catalog_plan, RejectsShape, PassesSweepLimit, gathers, concludes, audits, sweeps}
 use Rattle.ats_auditors.specs.declared.gathering.Gathered.{Gathered}
 use Rattle.ats_auditors.specs.declared.gathering.Gathered.TheVariants.{Whole, Long}
 use Rattle.ats_auditors.proofs.OneListed.{one_listed}
@@ -88,11 +88,6 @@ shards_one H root query r bytes =
       breaks = λ shards stop stops is. whole.breaks shards.frames stop stops is.accepted;
       one = whole.one;
     }
-
-archives_sound : {rest : List Archive → Plan Stop} (H : List ℕ → List ℕ) (got : List Archive) (names : List (List ℕ)) → ((archives : List Archive) → Sound (rest archives))
-    → Sound (reads_archives H got names rest)
-archives_sound H got [] later = later got
-archives_sound {rest = rest} H got (name ∷ names) later = index_sound (λ archive. archives_sound {rest = rest} H (got ++ archive ∷ []) names later)
 
 catalog_sound : (H : List ℕ → List ℕ) (words : AuditCatalogWords) → Sound (audit_catalog_plan H words)
 catalog_sound H words = ranking_sound (λ query. names_sound (λ names. reads (fails not_rejected) (λ bytes.

@@ -29,7 +29,7 @@ use Rattle.ats_plan.specs.Plan.{Plan, Finishes, Tries, Gets, Makes, Reads}
 use Rattle.ats_console.specs.Kinds.{printed_text, line_of_grown}
 use Rattle.ats_console.specs.Print.{lines, lines_of_catalog, lines_of_documents}
 use Rattle.ats_console.specs.Read.{HasIndex}
-use Rattle.ats_console.specs.Names.{HasNames, reads_names}
+use Rattle.ats_console.specs.Names.{HasNames, reads_names, reads_archives}
 use Rattle.ats_console.specs.RejectionLines.{line_of_rejection}
 use Rattle.ats_console.specs.Steps.{AsksRanking, asks_ranking, reads_index, asks_query, reads_file, reads_shaped}
 use Rattle.ats_console.specs.Lists.{IsListOf, IsListStop}
@@ -143,11 +143,6 @@ pub record IsCatalogAudited (H : List ℕ → List ℕ) (files : Files) (words :
   pub clear : IsClear (2 ^ 28) (AreAcceptedShards H (catalog_root H catalog) query words.r) (shards_collision H catalog query) files words.file
   pub right : AreRightIn catalog query words.r (merged_rows query clear.checked.value.proofs)
   pub printed : text ≡ lines_of_catalog (merged_rows query clear.checked.value.proofs)
-
--- the archives of the named indexes in order, after those that it has
-abbrev pub reads_archives : (List ℕ → List ℕ) → (got : List Archive) → (names : List (List ℕ)) → (List Archive → Plan Stop) → Plan Stop
-reads_archives H got [] rest = rest got
-reads_archives H got (name ∷ names) rest = reads_index H name (λ archive. reads_archives H (got ++ archive ∷ []) names rest)
 
 -- the line is that of the first fault of bytes that spell no proof of a catalog's answer
 abbrev pub RejectsShape : (bytes : List ℕ) → Stop → Type 0

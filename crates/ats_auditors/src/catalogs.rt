@@ -10,14 +10,14 @@ ghost use Rattle.ats_plan.specs.Files.{IsFile};
 ghost use Rattle.ats_plan.specs.Plan.{ComesToShelf};
 ghost use Rattle.ats_plan.specs.Runs.{IsDone, IsStopped};
 ghost use Rattle.ats_console.specs.Print.{lines_of_catalog};
-ghost use Rattle.ats_console.specs.Names.{HasNames};
+ghost use Rattle.ats_console.specs.Names.{HasNames, reads_archives};
 ghost use Rattle.ats_console.specs.Steps.{AsksRanking, reads_index, no_more, comes_to};
 ghost use Rattle.ats_console.specs.declared.stops.Stop.TheVariants.{Shelf as AtShelf, Memory};
 ghost use Rattle.ats_auditors.specs.Collided.{lines_of_catalog_collision};
 ghost use Rattle.ats_auditors.specs.Audited.{catalog_audit};
 ghost use Rattle.ats_auditors.specs.Inner.Audited.{AuditStop};
 ghost use Rattle.ats_auditors.specs.Inner.Catalogs.{IsBeginStop};
-ghost use Rattle.ats_auditors.specs.Commands.{audits_catalog, audit_catalog_plan, reads_archives};
+ghost use Rattle.ats_auditors.specs.Commands.{audits_catalog, audit_catalog_plan};
 
 use ats_base::Shelf;
 use ats_catalog_audit::{AuditFault, CatalogAudit, CatalogClash, CatalogVerdict, StringPlace};

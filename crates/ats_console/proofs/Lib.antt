@@ -2,6 +2,7 @@ pub mod Public
 mod JsonLemmas
 mod OneFault
 mod Fronts
+mod Archives
 mod RootWords
 mod OneFile
 mod ListLines

@@ -16,6 +16,13 @@ pub use Rattle.ats_console.proofs.Fronts.{has_index}
 pub use Rattle.ats_console.proofs.Fronts.{still_bytes, still_collection, still_index, still_roots}
 -- such a step left the files
 pub use Rattle.ats_console.proofs.Fronts.{same_bytes, same_index}
+-- the archives of named indexes lead on to what comes after them; if one was not read, what they are the first steps of
+-- stopped there
+pub use Rattle.ats_console.proofs.Archives.{leads_archives, at_archives}
+-- they are those of the indexes, which are still there
+pub use Rattle.ats_console.proofs.Archives.{has_archives, same_archives}
+-- they are read one after another, from none to all of them; a stop at the next
+pub use Rattle.ats_console.proofs.Archives.{AreSoFar, none_so_far, so_far_more, all_read_so, stops_at}
 -- memory may run out after some steps, whatever comes after them
 pub use Rattle.ats_console.proofs.Fronts.{ran_out, memory_stops}
 -- if such a step stopped, what it is the first step of stopped there
@@ -41,7 +48,7 @@ pub use Rattle.ats_console.proofs.Sound.{Sound, ends, stores, fails, tries, gets
 -- these stops are not for words
 pub use Rattle.ats_console.proofs.Sound.{not_shelf, not_memory, not_input, not_rejected, not_collision}
 -- a step that commands share keeps that
-pub use Rattle.ats_console.proofs.Sound.{query_sound, ranking_sound, collection_sound, index_sound, roots_sound, names_sound, checks_sound}
+pub use Rattle.ats_console.proofs.Sound.{query_sound, ranking_sound, collection_sound, index_sound, roots_sound, names_sound, archives_sound, checks_sound}
 -- bytes that spell a proof are its fields
 pub use Rattle.ats_console.proofs.OneProof.{spelled_fields}
 -- an honest proof within a limit is not too long, and one that is has one length

@@ -1,5 +1,5 @@
 -- The steps that commands share go one way at most, and stop none for its words.
-use Rattle.std.proofs.Common.{◌≡◌, ◌≢◌, ◌∙◌, ℕ, List, Some, sym, ap}
+use Rattle.std.proofs.Common.{◌≡◌, ◌≢◌, ◌∙◌, ◌++◌, ◌∷◌, [], ℕ, List, Some, sym, ap}
 use Rattle.ats_terms.specs.declared.query.QueryFault.{QueryFault}
 use Rattle.ats_terms.specs.declared.query.QueryFault.TheVariants as query
 use Rattle.ats_impact.specs.declared.collection.CollectionFault.{CollectionFault}
@@ -27,7 +27,7 @@ use Rattle.ats_plan.specs.Inner.Avoids.{Avoids}
 use Rattle.ats_plan.specs.Inner.Sound.{IsExact, IsOne, IsSound}
 use Rattle.ats_console.specs.Input.{AreJsonTexts, IsFirstJsonFault}
 use Rattle.ats_console.specs.RejectionLines.{line_of_rejection}
-use Rattle.ats_console.specs.Names.{SpellsName, reads_names}
+use Rattle.ats_console.specs.Names.{SpellsName, reads_names, reads_archives}
 use Rattle.ats_console.specs.Roots.{SpellsRoot, reads_roots}
 use Rattle.ats_console.specs.Stops.{line_of_rows, stop_of_query, stop_of_json, stop_of_collection, stop_of_load}
 use Rattle.ats_console.specs.Steps.{StopsBy, IsRowCount, asks_query, asks_ranking, reads_collection, reads_index, RejectsBytes}
@@ -204,6 +204,11 @@ roots_sound later = reads (fails not_input) (λ bytes. gets (list_one SpellsRoot
 
 pub names_sound : {name : List ℕ} {rest : List (List ℕ) → Plan Stop} → ((names : List (List ℕ)) → Sound (rest names)) → Sound (reads_names name rest)
 names_sound later = reads (fails not_input) (λ bytes. gets (list_one SpellsName 4096 one_name bytes) (λ stops. not_input stops.2) later)
+
+pub archives_sound : {rest : List Archive → Plan Stop} (H : List ℕ → List ℕ) (got : List Archive) (names : List (List ℕ))
+    → ((archives : List Archive) → Sound (rest archives)) → Sound (reads_archives H got names rest)
+archives_sound H got [] later = later got
+archives_sound {rest = rest} H got (name ∷ names) later = index_sound (λ archive. archives_sound {rest = rest} H (got ++ archive ∷ []) names later)
 
 pub checks_sound : {H : List ℕ → List ℕ} {root : List ℕ} {query : List (List ℕ × ℕ)} {r : ℕ} {bytes : List ℕ} {rest : Proof → Plan Stop}
     → ((proof : Proof) → Sound (rest proof)) → Sound (checks H root query r bytes rest)

@@ -164,6 +164,14 @@ pub record CatalogWords : Type 0 where
   pub query : List ℕ
   pub file : List ℕ
 
+-- the words of `prove-catalog LIST ALG R QUERY FILE`
+pub record ProveCatalogWords : Type 0 where
+  pub list : List ℕ
+  pub algorithm : Algorithm
+  pub r : ℕ
+  pub query : List ℕ
+  pub file : List ℕ
+
 -- the words of `audit-growth OLDINDEX NEWINDEX FILE`
 pub record AuditGrowthWords : Type 0 where
   pub old : List ℕ
@@ -187,6 +195,7 @@ pub data MakerCommand : Type 0 where
   Give : GiveWords → MakerCommand
   ProveBoth : ProveBothWords → MakerCommand
   Grow : GrowWords → MakerCommand
+  ProveCatalog : ProveCatalogWords → MakerCommand
 
 -- a command of a reader, who holds only roots
 pub data CheckerCommand : Type 0 where
@@ -228,6 +237,8 @@ maker_meaning (maker.Give index doc file) = Give (record { index = index.now; do
 maker_meaning (maker.ProveBoth index query proof) =
     ProveBoth (record { index = index.now; query = query.now; proof = proof.now })
 maker_meaning (maker.Grow old new file) = Grow (record { old = old.now; new = new.now; file = file.now })
+maker_meaning (maker.ProveCatalog list algorithm r query file) =
+    ProveCatalog (record { list = list.now; algorithm = algorithm; r = r; query = query.now; file = file.now })
 
 abbrev pub checker_meaning : CheckerValue → CheckerCommand
 checker_meaning (checker.Verify root r query proof) =
@@ -325,6 +336,10 @@ command_of_five word first second third fourth fifth =
     if bytes_eq word (codes "prove")
     then option_and_then (λ a. option_map
     (λ n. Maker (Prove (record { index = first; algorithm = a; r = n; query = fourth; proof = fifth })))
+    (number_of third)) (algorithm_of second)
+    else if bytes_eq word (codes "prove-catalog")
+    then option_and_then (λ a. option_map
+    (λ n. Maker (ProveCatalog (record { list = first; algorithm = a; r = n; query = fourth; file = fifth })))
     (number_of third)) (algorithm_of second)
     else if bytes_eq word (codes "ask")
     then option_and_then (λ digest. option_and_then (λ a. option_map

@@ -126,6 +126,14 @@ pub enum MakerCommand<'a> {
         new: &'a str,
         file: &'a str,
     },
+    /// `prove-catalog LIST ALG R QUERY FILE`
+    ProveCatalog {
+        list: &'a str,
+        algorithm: Algorithm,
+        r: u32,
+        query: &'a str,
+        file: &'a str,
+    },
 }
 
 /// A command of a reader, who holds only roots: it checks a file, and prints what the file shows.
@@ -402,6 +410,13 @@ fn read_five<'a>(
             r: number(third)?,
             query: fourth,
             proof: fifth,
+        })),
+        "prove-catalog" => Some(Command::Maker(MakerCommand::ProveCatalog {
+            list: first,
+            algorithm: algorithm(second)?,
+            r: number(third)?,
+            query: fourth,
+            file: fifth,
         })),
         "ask" => Some(Command::Ask {
             root: root_word(first)?,

@@ -1,5 +1,6 @@
 -- The plans of the commands that rank, index and make.
-use Rattle.std.specs.Prelude.{ℕ, List, ◌≡◌, map, ◌≤◌, ◌^◌, length, ◌<◌}
+use Rattle.std.specs.List.{AllZip}
+use Rattle.std.specs.Prelude.{ℕ, List, ◌≡◌, ◌⊎◌, map, ◌≤◌, ◌^◌, ◌++◌, ◌∷◌, [], length, ◌<◌}
 use Rattle.ats_base.specs.Outside.{Puts}
 use Rattle.ats_terms.specs.Query.{IsQueryOf}
 use Rattle.ats_impact.specs.Rank.{IsRanking, IsTop}
@@ -11,22 +12,31 @@ use Rattle.ats_index.specs.Spelling.{IsSpelling}
 use Rattle.ats_text_check.specs.Value.{IsTextProof}
 use Rattle.ats_growth_check.specs.Headline.{IsPrefix}
 use Rattle.ats_growth_check.specs.Value.{IsGrowth}
-use Rattle.ats_honest.specs.Honest.{IsProved}
+use Rattle.ats_proof.specs.declared.record.Algorithm.{Algorithm}
+use Rattle.ats_proof.specs.Value.{Proof}
+use Rattle.ats_honest.specs.Honest.{IsProved, IsProvedBy, IsTooLongBy}
 use Rattle.ats_text_proof.specs.Given.{given_text}
 use Rattle.ats_all_proof.specs.Made.{IsBothProof, IsBothFault}
 use Rattle.ats_all_proof.specs.declared.making.BothFault.TheVariants.{TooLong}
 use Rattle.ats_growth_proof.specs.Honest.{honest, IsFirstApart}
+use Rattle.ats_catalog_bytes.specs.Catalog.{roots_of}
+use Rattle.ats_catalog_check.specs.Headline.{score_in, size_in}
+use Rattle.ats_catalog_honest.specs.Honest.{IsProvedCatalog}
+use Rattle.ats_catalog_honest.specs.Ranking.{Ranked, IsRankedBy}
+use Rattle.ats_catalog_proof.specs.Proving.{IsAskedProof, HasRootOf}
+use Rattle.ats_catalog_proof.specs.Written.{bytes_of}
 use Rattle.ats_plan.specs.Files.{Files}
-use Rattle.ats_plan.specs.Plan.{Plan, Finishes, Makes, Stores, Tries}
+use Rattle.ats_plan.specs.Plan.{Plan, Finishes, Gets, Makes, Stores, Tries}
 use Rattle.ats_console.specs.Making.{IsMade, IsNotTooLong, IsUnmade}
+use Rattle.ats_console.specs.Names.{HasNames, reads_names, reads_archives}
 use Rattle.ats_console.specs.Print.{lines, IsPublished, line_of_proof}
 use Rattle.ats_console.specs.Read.{HasCollection, HasIndex}
 use Rattle.ats_console.specs.Steps.{AsksRanking, asks_ranking, reads_collection, reads_index, asks_query}
 use Rattle.ats_console.specs.Stops.{line_of_long_proof}
-use Rattle.ats_console.specs.Words.{MakerCommand, RankWords, BuildWords, MigrateWords, RootWords, ProveWords, GiveWords, ProveBothWords, GrowWords}
+use Rattle.ats_console.specs.Words.{MakerCommand, RankWords, BuildWords, MigrateWords, RootWords, ProveWords, GiveWords, ProveBothWords, GrowWords, ProveCatalogWords}
 use Rattle.ats_console.specs.declared.stops.Stop.{Stop}
 use Rattle.ats_console.specs.declared.stops.Stop.TheVariants.{Input}
-use Rattle.ats_makers.specs.Lines.{line_of_text_size, line_of_document, line_of_both, line_of_growth_size, line_of_differing}
+use Rattle.ats_makers.specs.Lines.{line_of_text_size, line_of_document, line_of_both, line_of_growth_size, line_of_differing, line_of_catalog_size, line_of_other_shard, line_of_long_shard}
 use Rattle.ats_console.specs.Words as command
 
 -- ---- `rank COLLECTION R QUERY`
@@ -223,6 +233,96 @@ grow_plan H words =
     (Makes (List ℕ) (λ bytes. IsGrowth bytes (honest H older newer)) (λ bytes.
     Stores words.file bytes (λ before now text. IsGrowthStored H before now words text)))))
 
+-- ---- `prove-catalog LIST ALG R QUERY FILE`
+
+-- The archives are those of the named indexes, as the shards of a catalog. Each index was read twice, and its second archive
+-- has the root of the first. If the second archives are the first ones, as they are if no file changed between, the bytes are
+-- the honest file of the catalog. They are at most as many as a catalog's file may have.
+pub record IsCatalogFile (H : List ℕ → List ℕ) (files : Files) (names : List (List ℕ)) (query : List (List ℕ × ℕ)) (r : ℕ)
+    (algorithm : Algorithm) (bytes : List ℕ) : Type 0 where
+  pub catalog : List Archive
+  pub indexes : AllZip (HasIndex H files) names catalog
+  pub again : List Archive
+  pub reread : AllZip (HasIndex H files) names again
+  pub roots : roots_of H again ≡ roots_of H catalog
+  pub proved : again ≡ catalog → IsProvedCatalog H catalog query r (λ _. algorithm) bytes
+  pub short : length bytes ≤ 2 ^ 28
+
+-- FILE holds such bytes over the indexes that the list names, and the text is the line of their number
+pub record IsCatalogStored (H : List ℕ → List ℕ) (before now : Files) (words : ProveCatalogWords) (text : List ℕ) : Type 0 where
+  pub asks : AsksRanking words.r words.query
+  pub query : List (List ℕ × ℕ)
+  pub asked : IsQueryOf words.query query
+  pub names : List (List ℕ)
+  pub listed : HasNames before words.list names
+  pub bytes : List ℕ
+  pub file : IsCatalogFile H before names query words.r words.algorithm bytes
+  pub stored : Puts before now words.file bytes
+  pub printed : text ≡ line_of_catalog_size (length bytes)
+
+-- the archive has another root than this shard of the catalog, and the line names the shard
+abbrev pub HasOtherRoot : (List ℕ → List ℕ) → (catalog : List Archive) → (shard : ℕ) → Archive → Stop → Type 0
+HasOtherRoot H catalog shard archive stop = (HasRootOf H catalog shard archive → ⊥) × (stop ≡ Input (line_of_other_shard shard))
+
+-- the bytes are such a proof, and at most as many as a proof may have
+pub record IsShardMade (Asked : Proof → Type 0) (bytes : List ℕ) : Type 0 where
+  pub proved : IsProvedBy Asked bytes
+  pub short : length bytes ≤ 2 ^ 26
+
+-- There is no such proof, so the archive is another than that of the ranking, and the line names the shard; or it has more
+-- bytes, and the line also says how many.
+abbrev pub IsShardUnmade : (Asked : Proof → Type 0) → (shard : ℕ) → Stop → Type 0
+IsShardUnmade Asked shard stop = (((proof : Proof) → Asked proof → ⊥) × (stop ≡ Input (line_of_other_shard shard)))
+    ⊎ ((bytes : ℕ) × IsTooLongBy Asked (2 ^ 26) bytes × (stop ≡ Input (line_of_long_shard shard bytes)))
+
+-- the proof of what a shard is asked for, over the archive of its index, which is read again
+abbrev pub proves_shard : (List ℕ → List ℕ) → (catalog : List Archive) → (asked : Archive → ℕ → Proof → Type 0) → (shard : ℕ)
+    → (name : List ℕ) → (List ℕ → Plan Stop) → Plan Stop
+proves_shard H catalog asked shard name rest =
+    reads_index H name (λ archive.
+    Tries (HasRootOf H catalog shard archive) (HasOtherRoot H catalog shard archive)
+    (Gets (List ℕ) (IsShardMade (asked archive shard)) (IsShardUnmade (asked archive shard) shard) rest))
+
+-- the proofs of all shards, after those that it has
+abbrev pub proves_shards : (List ℕ → List ℕ) → (catalog : List Archive) → (asked : Archive → ℕ → Proof → Type 0)
+    → (got : List (List ℕ)) → (names : List (List ℕ)) → (List (List ℕ) → Plan Stop) → Plan Stop
+proves_shards H catalog asked got [] rest = rest got
+proves_shards H catalog asked got (name ∷ names) rest =
+    proves_shard H catalog asked (length got) name (λ proof. proves_shards H catalog asked (got ++ proof ∷ []) names rest)
+
+-- what the shards of a catalog are asked for, if this is the ranking of all its documents
+abbrev pub asked_by : (List ℕ → List ℕ) → List (List ℕ × ℕ) → Algorithm → (r : ℕ) → List Ranked → Archive → ℕ → Proof → Type 0
+asked_by H query algorithm r ranking archive shard proof = IsAskedProof H archive query algorithm r ranking shard proof
+
+-- a file is at most as long as that of a catalog may be
+abbrev pub IsFileShort : (bytes : List ℕ) → Type 0
+IsFileShort bytes = length bytes ≤ 2 ^ 28
+
+-- it is longer, and the line says how many bytes it has
+abbrev pub IsFileLong : (bytes : List ℕ) → Stop → Type 0
+IsFileLong bytes stop = (2 ^ 28 < length bytes) × (stop ≡ Input (line_of_long_proof (length bytes)))
+
+-- the second pass over the indexes, after the ranking of all documents, and then the file
+abbrev pub proves_catalog : (List ℕ → List ℕ) → ProveCatalogWords → (names : List (List ℕ)) → List (List ℕ × ℕ) → (catalog : List Archive)
+    → (ranking : List Ranked) → Plan Stop
+proves_catalog H words names query catalog ranking =
+    proves_shards H catalog (asked_by H query words.algorithm words.r ranking) [] names (λ proofs.
+    Tries (IsFileShort (bytes_of (roots_of H catalog) proofs)) (IsFileLong (bytes_of (roots_of H catalog) proofs))
+    (Stores words.file (bytes_of (roots_of H catalog) proofs) (λ before now text. IsCatalogStored H before now words text)))
+
+-- two passes over the named indexes: so one index at a time is enough
+abbrev pub proves_names : (List ℕ → List ℕ) → ProveCatalogWords → (names : List (List ℕ)) → List (List ℕ × ℕ) → Plan Stop
+proves_names H words names query =
+    reads_archives H [] names (λ catalog.
+    Makes (List Ranked) (IsRankedBy (size_in catalog) (score_in catalog query)) (λ ranking.
+    proves_catalog H words names query catalog ranking))
+
+abbrev pub prove_catalog_plan : (List ℕ → List ℕ) → ProveCatalogWords → Plan Stop
+prove_catalog_plan H words =
+    asks_ranking words.r words.query (λ query.
+    reads_names words.list (λ names.
+    proves_names H words names query))
+
 -- ---- all
 
 abbrev pub maker_plan : (List ℕ → List ℕ) → MakerCommand → Plan Stop
@@ -234,3 +334,4 @@ maker_plan H (command.Prove words) = prove_plan H words
 maker_plan H (command.Give words) = give_plan H words
 maker_plan H (command.ProveBoth words) = prove_both_plan H words
 maker_plan H (command.Grow words) = grow_plan H words
+maker_plan H (command.ProveCatalog words) = prove_catalog_plan H words

@@ -2,3 +2,4 @@
 
 pub mod Stops
 pub mod Storing
+pub mod Catalogs

@@ -3,12 +3,13 @@
 //! `rank` ranks the documents of a collection's file, `build` stores a collection's index, `migrate` that of the same
 //! texts in the second format, and `root` prints the root of an index. `prove` stores the proof of a query's best
 //! documents, `give` what gives the text of a document, `prove-both` the proof of all documents with every term of a
-//! query, and `grow` what shows that nothing was withdrawn between two indexes.
+//! query, `grow` what shows that nothing was withdrawn between two indexes, and `prove-catalog` the file of a catalog's
+//! answer.
 //!
 //! The room stands on `ats_plan` and `ats_console` for what a command is and reads, on `ats_index`, `ats_prover`,
-//! `ats_text_proof`, `ats_all_proof` and `ats_growth_proof` for what it makes, and on no check. [`answer`] comes to the text that the plan
-//! of a command allows (`specs/Commands`), or stops as its plan stops. How a command makes its answer may change freely; the
-//! order in which its inputs are tried may not.
+//! `ats_text_proof`, `ats_all_proof`, `ats_growth_proof` and `ats_catalog_proof` for what it makes, and on no check.
+//! [`answer`] comes to the text that the plan of a command allows (`specs/Commands`), or stops as its plan stops. How a
+//! command makes its answer may change freely; the order in which its inputs are tried may not.
 //!
 //! ```
 //! let command = MakerCommand::Rank { collection: "X", r: 1, query: "red hen" };
@@ -23,6 +24,7 @@ ghost use Rattle.ats_console.specs.Words.{maker_meaning};
 ghost use Rattle.ats_console.specs.declared.stops.Stop.TheVariants.{Shelf as AtShelf, Memory};
 ghost use Rattle.ats_makers.specs.Commands.{maker_plan};
 
+mod catalogs;
 mod documents;
 mod growths;
 mod indexing;
@@ -34,6 +36,7 @@ mod texts;
 use ats_base::Shelf;
 use ats_console::{MakerCommand, Stop};
 use ats_hash::Hash32;
+use catalogs::prove_catalog;
 use documents::prove_both;
 use growths::grow;
 use indexing::{build, migrate, root};
@@ -86,5 +89,12 @@ pub fn answer<H: Hash32 + Sync, R: Threads + Sync, S: Shelf>(
             proof,
         } => prove_both::<H, R, S>(rt, alloc, index, query, proof, shelf),
         MakerCommand::Grow { old, new, file } => grow::<H, R, S>(rt, alloc, old, new, file, shelf),
+        MakerCommand::ProveCatalog {
+            list,
+            algorithm,
+            r,
+            query,
+            file,
+        } => prove_catalog::<H, R, S>(rt, alloc, list, algorithm, r, query, file, shelf),
     }
 }

@@ -26,13 +26,14 @@ use Rattle.ats_catalog_audit.proofs.Public as catalogs
 use Rattle.ats_plan.specs.Files.{Files, IsTold}
 use Rattle.ats_plan.specs.Plan.{Plan, Refuses, Finishes}
 use Rattle.ats_console.specs.Words.{Audit, AuditBoth, AuditCatalog, AuditCatalogWords, AuditFetch, AuditGrowth, Command, command_of, Auditor}
+use Rattle.ats_console.specs.Names.{reads_archives}
 use Rattle.ats_console.specs.Read.{HasIndex}
 use Rattle.ats_console.specs.Steps.{AsksRanking}
 use Rattle.ats_console.specs.declared.stops.Stop.{Stop}
 use Rattle.ats_top.specs.Calling.{MayCall, MayOpen}
 use Rattle.ats_auditors.specs.Collided.{Collides, lines_of_proof_collision, lines_of_catalog_collision, lines_of_growth_collision, lines_of_text_collision}
 use Rattle.ats_auditors.specs.Audited.{audits_bytes, catalog_audit}
-use Rattle.ats_auditors.specs.Commands.{IsCatalogAudited, reads_archives}
+use Rattle.ats_auditors.specs.Commands.{IsCatalogAudited}
 use Rattle.ats_top.specs.Commands.{plan_of}
 use Rattle.ats_top.specs.Outside.{Outside}
 use Rattle.ats_top.specs.Run.{StepsHold, Excuse, NoMemory, SinkFailed, ShelfFailed, CallerFailed, DoorBroke, Ran}

@@ -1,6 +1,7 @@
 //! The laws of the commands together, as contracts of functions that do nothing.
 
 ghost use Rattle.std.specs.Prelude.{◌≡◌, ◌≢◌, ◌⊎◌, ◌≤◌, ◌^◌, ℕ, List, All, length, codes, Some, IsSome};
+ghost use Rattle.std.specs.List.{AllZip};
 ghost use Rattle.ats_base.specs.Outside.{Holds};
 ghost use Rattle.ats_base.specs.Links.{CallerTold};
 ghost use Rattle.ats_terms.specs.Query.{IsQueryOf};
@@ -15,13 +16,16 @@ ghost use Rattle.ats_growth_check.specs.Value.{IsGrowth};
 ghost use Rattle.ats_proof.specs.declared.record.Algorithm.{Algorithm};
 ghost use Rattle.ats_index.specs.Spelling.{IsSpelling};
 ghost use Rattle.ats_honest.specs.Honest.{IsProved};
-ghost use Rattle.ats_console.specs.Words.{AskWords, ServeWords, AuditWords, SweepWords, GiveWords, AuditFetchWords, ProveBothWords, AuditBothWords, GrowWords, AuditGrowthWords, Command, Ask, Serve, Audit, Sweep, Give, AuditFetch, ProveBoth, AuditBoth, Grow, AuditGrowth, command_of, number_of, algorithm_of, root_word, root_words, prove_words, migrate_words, verify_words, fetch_words, both_words, growth_words, Auditor, Maker};
-ghost use Rattle.ats_plan.specs.Files.{Files, IsFile};
+ghost use Rattle.ats_catalog_bytes.specs.Catalog.{catalog_root};
+ghost use Rattle.ats_catalog_honest.specs.Honest.{IsProvedCatalog};
+ghost use Rattle.ats_console.specs.Words.{AskWords, ServeWords, AuditWords, SweepWords, GiveWords, AuditFetchWords, ProveBothWords, AuditBothWords, GrowWords, AuditGrowthWords, ProveCatalogWords, AuditCatalogWords, Command, Ask, Serve, Audit, Sweep, Give, AuditFetch, ProveBoth, AuditBoth, Grow, AuditGrowth, AuditCatalog, command_of, number_of, algorithm_of, root_word, root_words, prove_words, migrate_words, verify_words, fetch_words, both_words, growth_words, catalog_words, Auditor, Maker};
+ghost use Rattle.ats_plan.specs.Files.{Files, IsFile, IsTold};
+ghost use Rattle.ats_console.specs.Names.{HasNames};
 ghost use Rattle.ats_console.specs.Read.{HasIndex};
 ghost use Rattle.ats_console.specs.Steps.{IsRowCount, AsksRanking};
 ghost use Rattle.ats_plan.specs.Plan.{Refuses, Passes, IsKnown};
 ghost use Rattle.ats_top.specs.Commands.{plan_of};
-ghost use Rattle.ats_makers.specs.Commands.{in_blocks, HasDocument, WithdrawsNothing};
+ghost use Rattle.ats_makers.specs.Commands.{in_blocks, HasDocument, WithdrawsNothing, IsCatalogStored};
 ghost use Rattle.ats_console.specs.declared.stops.Stop.{Stop};
 ghost use Rattle.ats_console.specs.declared.stops.Stop.TheVariants.{Shelf as AtShelf};
 ghost use Rattle.ats_console.specs.Stops.{status_of_stop, text_of_stop};
@@ -35,6 +39,7 @@ ghost use Rattle.ats_top.specs.Conversation.{Converses};
 ghost use Rattle.ats_top.specs.Asked.{question_of};
 ghost use Rattle.ats_top.specs.Calling.{MayCall, MayOpen, ReplyDecides};
 
+use ats_catalog_honest::{honest_catalogs_are_accepted, honest_catalogs_have_no_clash};
 use ats_hash::HashKind;
 
 /// If a file is the honest proof of a query over an archive, by either algorithm, `verify` serves it under the word of
@@ -149,6 +154,31 @@ pub fn commands_accept_shown_growths<H: HashKind>()
         → IsGrowth bytes (honest H.hash older newer) → IsFile files words.file 4096 bytes
         → StepsHold H.hash files (Auditor (AuditGrowth words)) }
 {}
+
+/// If the shelf reports its files, `prove-catalog` stores the honest file of the catalog of the indexes that its list names:
+/// it reads each index twice, and finds the same archive. A file that is the honest one of a catalog, by any algorithms, is
+/// accepted by `catalog` under the word of the catalog's root, and by `audit-catalog` against a list of indexes of the
+/// catalog: it has no collision with the catalog.
+pub fn commands_accept_proved_catalogs<H: HashKind>()
+    ensures prove { (before now : Files) (words : ProveCatalogWords) (text : List ℕ) → IsTold before
+        → (stored : IsCatalogStored H.hash before now words text)
+        → IsProvedCatalog H.hash stored.file.catalog stored.query words.r (λ _. words.algorithm) stored.bytes }
+    ensures catalog { (catalog : List Archive) (asked : List (List ℕ × ℕ)) (rows : ℕ) (by : ℕ → Algorithm)
+        (bytes : List ℕ) (files : Files) (root r query name : List ℕ)
+        → IsProvedCatalog H.hash catalog asked rows by bytes
+        → IsFile files name (2 ^ 28) bytes → root_word root ≡ Some (catalog_root H.hash catalog)
+        → number_of r ≡ Some rows → IsRowCount rows → IsQueryOf query asked
+        → AreOfCommand (catalog_words root r query name) (StepsHold H.hash files) }
+    ensures audit { (catalog : List Archive) (asked : List (List ℕ × ℕ)) (by : ℕ → Algorithm) (bytes : List ℕ)
+        (files : Files) (words : AuditCatalogWords) (names : List (List ℕ))
+        → HasNames files words.list names → AllZip (HasIndex H.hash files) names catalog
+        → IsRowCount words.r → IsQueryOf words.query asked
+        → IsProvedCatalog H.hash catalog asked words.r by bytes → IsFile files words.file (2 ^ 28) bytes
+        → StepsHold H.hash files (Auditor (AuditCatalog words)) }
+{
+    honest_catalogs_are_accepted::<H>();
+    honest_catalogs_have_no_clash::<H>();
+}
 
 /// An index in which lists stand in blocks has the same bytes if it is migrated again.
 pub fn migrated_indexes_stay<H: HashKind>()

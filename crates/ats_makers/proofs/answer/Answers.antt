@@ -9,5 +9,9 @@ returns-in-Rank g c = rw c.in-Rank.is (record { ok = c.rank.ensures.ok; stop = c
 pub returns-in-Prove : goal.returns-in-Prove
 returns-in-Prove g c = rw c.in-Prove.is (record { ok = c.prove.ensures.ok; stop = c.prove.ensures.stop; unread = c.prove.ensures.unread })
 
+pub returns-in-ProveCatalog : goal.returns-in-ProveCatalog
+returns-in-ProveCatalog g c =
+    rw c.in-ProveCatalog.is (record { ok = c.prove_catalog.ensures.ok; stop = c.prove_catalog.ensures.stop; unread = c.prove_catalog.ensures.unread })
+
 pub returns-in-ProveBoth : goal.returns-in-ProveBoth
 returns-in-ProveBoth g c = rw c.in-ProveBoth.is (record { ok = c.prove_both.ensures.ok; stop = c.prove_both.ensures.stop; unread = c.prove_both.ensures.unread })

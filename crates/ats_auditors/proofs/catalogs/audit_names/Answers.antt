@@ -3,12 +3,12 @@ use Rattle.ats_catalog_check.specs.Headline.{AreRightIn}
 use Rattle.ats_console.specs.Names.{HasNames}
 use Rattle.ats_console.specs.Print.{lines_of_catalog}
 use Rattle.ats_console.specs.Words.{AuditCatalogWords}
-use Rattle.ats_console.proofs.Public.{passed, get_stops}
+use Rattle.ats_console.proofs.Public.{passed, get_stops, has_archives, same_archives}
 use Rattle.ats_plan.specs.Files.{Files, IsFile}
 use Rattle.ats_plan.proofs.Public.{leads_none}
 use Rattle.ats_auditors.specs.Audited.{catalog_audit}
 use Rattle.ats_auditors.specs.Commands.{IsCatalogAudited}
-use Rattle.ats_auditors.proofs.Archives.{has_archives, same_archives, some_roots}
+use Rattle.ats_auditors.proofs.Archives.{some_roots}
 use Rattle.ats_auditors.proofs.AuditEnds.{audit_stops, audit_end}
 use Rattle.ats_auditors.proofs.CatalogSteps.{archives_stop, leads_audited}
 use Rattle.ats_auditors.proofs.catalogs.audit_names.Goals as goal
