@@ -31,7 +31,7 @@ function gate() {
 
 /** Ends a request with its question, or when next to nothing has moved for too long. */
 class Watch {
-  #question; #moving = 0;
+  #question; #forget; #moving = 0;
   #controller = new AbortController();
   /** @type {ReturnType<typeof setTimeout> | undefined} */
   #timer;
@@ -40,8 +40,7 @@ class Watch {
   constructor(question) {
     this.#question = question;
     this.isSilent = false;
-    const end = () => this.#controller.abort(question.signal.reason);
-    question.signal.addEventListener('abort', end, { signal: this.signal });
+    this.#forget = question.whenEnded(() => this.#controller.abort(question.signal.reason));
     this.moved(PACE);
   }
 
@@ -59,6 +58,7 @@ class Watch {
   /** What is left of the body is not wanted. */
   end() {
     clearTimeout(this.#timer);
+    this.#forget();
     this.#controller.abort();
   }
 

@@ -32,6 +32,8 @@ export const LIMITS = { silence: 30000, total: 300000, bytes: 2 ** 28, requests:
 export class Question {
   #progress; #timer; #requests = 0; #bytes = 0;
   #controller = new AbortController();
+  /** @type {Set<() => void>} */
+  #ends = new Set(); // one listener calls them all: Node warns of more than ten
 
   /**
    * @param {Limits} limits
@@ -42,6 +44,7 @@ export class Question {
     this.#progress = progress;
     const late = new Fault('silent', `host: no answer within ${limits.total} ms`);
     this.#timer = setTimeout(() => this.#controller.abort(late), limits.total);
+    this.signal.addEventListener('abort', () => this.#ends.forEach(end => end()));
     const stop = () => this.#controller.abort(signal?.reason);
     if (signal?.aborted) stop();
     signal?.addEventListener('abort', stop, { signal: this.signal });
@@ -64,6 +67,12 @@ export class Question {
   }
 
   #show() { this.#progress({ bytes: this.#bytes, requests: this.#requests }); }
+
+  /** @type {(end: () => void) => () => void} calls `end` if the question ends. What it returns takes this back */
+  whenEnded(end) {
+    this.#ends.add(end);
+    return () => this.#ends.delete(end);
+  }
 
   /**
    * Waits, or ends with the question.
@@ -95,8 +104,7 @@ export class Question {
     return new Promise((done, failed) => {
       const end = () => failed(this.signal.reason);
       if (this.signal.aborted) end();
-      this.signal.addEventListener('abort', end);
-      promise.then(done, failed);
+      promise.finally(this.whenEnded(end)).then(done, failed);
     });
   }
 }

@@ -90,7 +90,7 @@ await ranked('a rare word', last);
 await ranked('an absent word', 'zzzz');
 await ranked('the most frequent and a rare one', 0, last);
 await ranked('five words', ...FIVE);
-await measured('a text', it => it.text({ root: roots[0], doc: 1000 }));
+await measured('a text', it => it.text({ root: roots[0], doc: 0 }));
 await both('all documents, with a rare word', 0, last);
 await both('all documents, with one of the 3,000 most frequent', 0, 3000);
 await both('all documents, with one of the 1,000 most frequent', 0, 1000);
