@@ -111,7 +111,7 @@ def checking_in_page(house: House) -> Iterator[Figure]:
     for (name, algorithm, rows), one in zip(IN_PAGE, proofs(house, house.archive(house.large), IN_PAGE)):
         path.write_bytes(one.bytes)
         times = times_of(house, one)
-        words = [measure.HOME / "web" / "times.mjs", made, one.root, rows, one.query, path, times]
+        words = [measure.HOME / "web" / "try" / "times.mjs", made, one.root, rows, one.query, path, times]
         page = [float(line) for line in measure.run([node, *map(str, words)], memory=NODE).printed.splitlines()]
         native = [seconds_of(reader, one) * 1e3 for _ in range(times)]
         of = f"{name}, {algorithm}, {rows} rows, {len(one.bytes):,} bytes"

@@ -83,9 +83,9 @@ export class Archive {
     const isWithin = this.documents >= 1 && this.documents <= MOST_DOCUMENTS && this.leaves >= 2
       && this.leaves <= MOST_LEAVES && this.#pageShift >= LEAST_SHIFT && this.#pageShift <= MOST_SHIFT;
     if (!isWithin) throw hostFault('wrong', 'head', 'a number out of range');
-    this.dictionary = new KnownTree(this.leaves, dictionary);
-    this.documentsTree = new KnownTree(this.documents, documents);
-    this.textsTree = new KnownTree(this.documents, texts);
+    this.dictionary = new KnownTree(this.leaves, dictionary, 'dictionary');
+    this.documentsTree = new KnownTree(this.documents, documents, 'documents-tree');
+    this.textsTree = new KnownTree(this.documents, texts, 'texts-tree');
     this.#readSparseIndex(fields);
   }
 
@@ -152,10 +152,8 @@ export class Archive {
       leaves.push(leaf);
       list += sizeOfList(leaf.documents);
     }
-    const path = fields.digests(besides(this.leaves, position, count).length);
+    this.dictionary.add(position, leaves.map(leaf => leafDigest(leaf.bytes)), fields);
     fields.end();
-    const isOwn = this.dictionary.add(position, leaves.map(leaf => leafDigest(leaf.bytes)), path);
-    if (!isOwn) throw hostFault('wrong', 'dictionary', `page ${position >> this.#pageShift}`);
     return leaves;
   }
 
@@ -178,23 +176,21 @@ export class Archive {
   /**
    * Of a group of documents: for each its record, of `size` bytes, and where it begins and ends in its file.
    * @param {KnownTree} tree
-   * @param {string} name
    * @param {number} number
    * @param {number} size
    * @param {(record: Uint8Array) => Uint8Array} digestOf
    * @returns {Promise<Member[]>}
    */
-  #group(tree, name, number, size, digestOf) {
-    return this.#once(`${name} ${number}`, () => {
+  #group(tree, number, size, digestOf) {
+    return this.#once(`${tree.file} ${number}`, () => {
       const position = number << GROUP_SHIFT, count = Math.min(GROUP, this.documents - position);
       const depth = 32 - Math.clz32(this.documents - 1 >>> GROUP_SHIFT);
       const room = 4 * (GROUP + 1) + size * GROUP + DIGEST * depth;
-      return this.range(name, number * room, (number + 1) * room, bytes => {
-        const fields = new Fields(name, bytes);
+      return this.range(tree.file, number * room, (number + 1) * room, bytes => {
+        const fields = new Fields(tree.file, bytes);
         const begins = Array.from({ length: GROUP + 1 }, () => fields.u32());
         const records = Array.from({ length: GROUP }, () => fields.take(size)).slice(0, count);
-        const path = fields.digests(besides(this.documents, position, count).length);
-        if (!tree.add(position, records.map(digestOf), path)) throw hostFault('wrong', name, `group ${number}`);
+        tree.add(position, records.map(digestOf), fields);
         return records.map((record, i) => ({ record, from: begins[i], to: begins[i + 1] }));
       });
     });
@@ -202,7 +198,7 @@ export class Archive {
 
   /** @type {(doc: number) => Promise<Uint8Array>} the bytes of a document's text */
   async text(doc) {
-    const group = await this.#group(this.textsTree, 'texts-tree', doc >> GROUP_SHIFT, DIGEST, digest => digest);
+    const group = await this.#group(this.textsTree, doc >> GROUP_SHIFT, DIGEST, digest => digest);
     const { record, from, to } = group[doc % GROUP];
     if (to < from || to - from > MOST_TEXT) throw hostFault('long', 'texts-tree', `text ${doc}`);
     return this.range('texts', from, to, text => {
@@ -216,18 +212,15 @@ export class Archive {
    * @param {number} doc
    */
   async termsOf(doc) {
-    const name = 'documents-tree', size = 4 + DIGEST;
-    const group = await this.#group(this.documentsTree, name, doc >> GROUP_SHIFT, size, leafDigest);
+    const group = await this.#group(this.documentsTree, doc >> GROUP_SHIFT, 4 + DIGEST, leafDigest);
     const { record, from, to } = group[doc % GROUP];
-    const count = new Fields(name, record).u32(), root = record.subarray(4);
-    if (to < from || to - from > count * (1 + MOST_TERM + 2)) throw hostFault('long', name, `terms of ${doc}`);
+    const count = new Fields('documents-tree', record).u32(), tree = new KnownTree(count, record.subarray(4), 'terms');
+    if (to < from || to - from > count * (1 + MOST_TERM + 2)) throw hostFault('long', 'terms', `those of ${doc}`);
     return this.range('terms', from, to, bytes => {
       const fields = new Fields('terms', bytes);
       const leaves = Array.from({ length: count }, (_, position) => termsLeaf(fields, position));
+      tree.add(0, leaves.map(leaf => leafDigest(leaf.bytes)), fields);
       fields.end();
-      const tree = new KnownTree(count, root);
-      const isOwn = tree.add(0, leaves.map(leaf => leafDigest(leaf.bytes)), []);
-      if (!isOwn) throw hostFault('wrong', 'terms', `document ${doc}`);
       return { record, leaves, tree };
     });
   }

@@ -4,11 +4,12 @@ import { bytesOfHex, hex } from './bytes.mjs';
 import { each } from './calls.mjs';
 import { Fault, throwOthers } from './fault.mjs';
 import { isCatalog, nameOf, placeOf } from './places.mjs';
-import { number, reasonOf } from './sentences.mjs';
+import { number } from './sentences.mjs';
 import { catalogFile, proofsIn, shownBy } from './shown.mjs';
 
 /**
  * @typedef {import('./question.mjs').How} How
+ * @typedef {import('./assembler.mjs').Assembler} Assembler
  *
  * @typedef {object} Question
  * @property {string} root
@@ -20,6 +21,7 @@ import { catalogFile, proofsIn, shownBy } from './shown.mjs';
  * @property {string[]} passed signs that mean nothing
  *
  * @typedef {object} Words
+ * @property {import('./check.mjs').Verdict} got whether the query breaks a limit: then it has no words
  * @property {import('./check.mjs').Term[]} terms
  * @property {string[]} all the terms, in the order of their bytes
  * @property {string[][]} together the phrases that have several words
@@ -34,30 +36,36 @@ import { catalogFile, proofsIn, shownBy } from './shown.mjs';
  * A question with the roots of its archives, and what came for it: one proof of the best, or one of all documents from
  * each archive; and the files of texts, by the names of places.mjs.
  * @typedef {Question & { shards: string[], proofs: Uint8Array[], texts: Map<string, Uint8Array>, titles: boolean,
- *   from?: SavedFrom }} Proved
+ *   from?: Saved }} Proved
  * @typedef {Proved & { words: Words, got: any, ms: number, all: number, having: number[], rows: { lower: bigint, upper:
  *   bigint }[], docs: string[], found?: Found }} Answer
- * @typedef {{ name: string, date: string, root: string }} SavedFrom the file that was opened
+ * @typedef {Proved & { name: string, date: string }} Saved the file that was opened
  */
 
 const MOST_TEXTS = 10000, MOST_BYTES = 2 ** 26, AT_ONCE = 6;
 const OF_SHARD = 64; // added to the reason of a proof that is one of a catalog's
 const NOTHING = new Uint8Array(0), OTHER_ROOT = { status: 1, reason: 16, line: '', ms: 0 };
 
-/** Asks a source, and has the checks look at what comes. */
+/** Asks the folders of archives on hosts, which nobody has to trust, and has the checks look at what comes. */
 export class Asking {
-  #checks; #source;
+  #checks; #hosts;
   /** @type {Map<string, string[]>} */
   #shards = new Map();
 
   /**
    * @param {import('./calls.mjs').Calls} checks
-   * @param {import('./source.mjs').Source} source
+   * @param {import('./calls.mjs').Calls} hosts whose answers an Assembler makes
    */
-  constructor(checks, source) {
+  constructor(checks, hosts) {
     this.#checks = checks;
-    this.#source = source;
+    this.#hosts = hosts;
   }
+
+  /**
+   * @type {<Call extends keyof Assembler>(call: Call, words: Parameters<Assembler[Call]>[0], how?: How) =>
+   *   Promise<Awaited<ReturnType<Assembler[Call]>>>}
+   */
+  #source = (call, words, how = {}) => this.#hosts.call(call, words, how);
 
   /**
    * The roots of the archives under a root, which the check has compared with it.
@@ -66,10 +74,7 @@ export class Asking {
    */
   async shards(root, signal) {
     const found = this.#shards.get(root) ?? await this.#source('roots', { root }, { signal });
-    if (!await this.#isOf(root, found, signal)) {
-      throw new Fault('wrong', 'host: the roots of the archives: of another catalog',
-        'The host’s list of archives is not this catalog’s. Ask another host, and tell the owner.');
-    }
+    if (!await this.#isOf(root, found, signal)) throw new Fault('wrong', 'host: archives of another catalog');
     this.#shards.set(root, found);
     return found;
   }
@@ -99,7 +104,7 @@ export class Asking {
     if (way === 'all') return this.#checkedAll(question, proofs, signal);
     const got = await this.#checks.call(call, [proofs[0], bytesOfHex(root), query, r], { signal });
     if (isMany && got.reason >= OF_SHARD) return { ...got, reason: got.reason - OF_SHARD, shard: got.count };
-    return { ...got, docs: got.rows.map(({ shard, doc }) => nameOf(shard, doc)) };
+    return { ...got, docs: got.rows?.map(({ shard, doc }) => nameOf(shard, doc)) };
   }
 
   /** The same of all documents with every word: of each archive by itself. */
@@ -113,17 +118,6 @@ export class Asking {
       docs.push(...got.docs.map(doc => nameOf(isMany ? i : undefined, doc)));
     }
     return { status: 0, docs, rows: [], ms };
-  }
-
-  /**
-   * The verdict for a question that breaks a limit, or undefined: the check looks at the question before the bytes of a
-   * proof.
-   * @param {Question} question
-   * @param {AbortSignal} signal
-   */
-  async beyondLimits(question, signal) {
-    const got = await this.checked({ ...question, shards: [question.root] }, [NOTHING], signal);
-    return got.status === 1 ? undefined : got;
   }
 
   /**
@@ -153,17 +147,12 @@ export class Asking {
 
   /** @type {(question: Question, signal: AbortSignal) => Promise<Words>} */
   async words({ query, phrases }, signal) {
-    const got = await this.#checks.call('query', [query], { signal });
-    if (got.status !== 0) throw new Fault('input', got.line, reasonOf(got));
-    const all = got.terms.map(({ term }) => new TextDecoder().decode(term));
+    const got = await this.#checks.call('query', [query], { signal }), { terms = [] } = got;
+    const all = terms.map(({ term }) => new TextDecoder().decode(term));
     const sequences = await Promise.all(phrases.map(phrase => this.#checks.call('sequence', [phrase], { signal })));
     const together = sequences.filter(words => words.length > 1), inside = new Set(together.flat());
-    return {
-      terms: got.terms,
-      all,
-      together,
-      marked: [...together, ...all.filter(word => !inside.has(word)).map(word => [word])]
-    };
+    const marked = [...together, ...all.filter(word => !inside.has(word)).map(word => [word])];
+    return { got, terms, all, together, marked };
   }
 
   /**
@@ -200,16 +189,15 @@ export class Asking {
    * @param {Answer} answer
    * @param {string} call
    * @param {string} name of the document
-   * @param {unknown[]} words
    * @param {AbortSignal} signal
    * @returns {Promise<{ got: any, read: any, size: number }>}
    */
-  async read(answer, call, name, words, signal) {
-    const { shards, texts, from } = answer, { shard, doc } = placeOf(name);
+  async read({ shards, texts, from, words, titles }, call, name, signal) {
+    const { shard, doc } = placeOf(name), sequences = call === 'holds' ? words.together : words.marked;
     const root = shards[shard], kept = texts.get(name);
-    if (from && !kept) throw new Fault('missing', 'no text in the file', 'The saved file does not have it.');
+    if (from && !kept) throw new Fault('missing', 'no text in the saved file');
     const file = kept ?? await this.#source('text', { root, doc }, { signal });
-    const it = await this.#checks.call(call, [file, bytesOfHex(root), doc, ...words], { signal });
+    const it = await this.#checks.call(call, [file, bytesOfHex(root), doc, sequences, titles], { signal });
     if (it.got.status === 0 && call !== 'holds') texts.set(name, file);
     return { ...it, size: file.length };
   }
@@ -234,7 +222,7 @@ export class Asking {
   /** Looks into one text, and returns how many bytes came for it. */
   async #looked(answer, doc, found, signal) {
     try {
-      const { got, read, size } = await this.read(answer, 'holds', doc, [answer.words.together], signal);
+      const { got, read, size } = await this.read(answer, 'holds', doc, signal);
       if (read) found.docs.push(doc);
       if (got.status !== 0) found.failed++;
       return size;

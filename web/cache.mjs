@@ -3,7 +3,7 @@
 // kept is bound again when it is used.
 
 const MOST_MEMORY = 2 ** 24, MOST_STORED = 2 ** 26; // bytes
-const NAME = 'ats-ranges', RANGES = 'ranges', SIZES = 'sizes', WAIT_MS = 50, PATIENCE_MS = 1000;
+const NAME = 'ats-ranges', RANGES = 'ranges', SIZE = '', WAIT_MS = 50, PATIENCE_MS = 1000;
 
 /**
  * @typedef {object} Cache
@@ -63,19 +63,22 @@ export class StoredCache {
   static async open() {
     try {
       const opening = indexedDB.open(NAME, 1);
-      opening.onupgradeneeded = () => [RANGES, SIZES].forEach(name => opening.result.createObjectStore(name));
+      opening.onupgradeneeded = () => opening.result.createObjectStore(RANGES);
       return new StoredCache(await settled(opening));
     } catch {
       return new MemoryCache();
     }
   }
 
+  /** @type {(mode: IDBTransactionMode) => IDBObjectStore} has how many bytes it keeps, too, beside the ranges */
+  #ranges(mode) { return this.#store.transaction(RANGES, mode).objectStore(RANGES); }
+
   /** @type {Cache['get']} */
   async get(key) {
     const near = await this.#memory.get(key);
     if (near || !this.#answers) return near;
     try {
-      return await settled(this.#store.transaction(RANGES).objectStore(RANGES).get(key));
+      return await settled(this.#ranges('readonly').get(key));
     } catch {
       this.#answers = false;
       return undefined;
@@ -97,12 +100,11 @@ export class StoredCache {
     this.#coming.clear();
     if (added > MOST_STORED) return;
     try {
-      const both = this.#store.transaction([RANGES, SIZES], 'readwrite');
-      const ranges = both.objectStore(RANGES), sizes = both.objectStore(SIZES);
-      const before = await settled(sizes.get('all')) ?? 0, isFull = before + added > MOST_STORED;
+      const ranges = this.#ranges('readwrite');
+      const before = await settled(ranges.get(SIZE)) ?? 0, isFull = before + added > MOST_STORED;
       if (isFull) ranges.clear();
       for (const [key, bytes] of coming) ranges.put(bytes, key);
-      await settled(sizes.put(isFull ? added : before + added, 'all'));
+      await settled(ranges.put(isFull ? added : before + added, SIZE));
     } catch { /* then it is read again */ }
   }
 
@@ -111,8 +113,7 @@ export class StoredCache {
     await this.#memory.forget(folder);
     for (const key of this.#coming.keys()) if (key.startsWith(folder)) this.#coming.delete(key);
     try {
-      const ranges = this.#store.transaction(RANGES, 'readwrite').objectStore(RANGES);
-      await settled(ranges.delete(IDBKeyRange.bound(folder, `${folder}\uffff`)));
+      await settled(this.#ranges('readwrite').delete(IDBKeyRange.bound(folder, `${folder}\uffff`)));
     } catch { /* then a later question forgets it */ }
   }
 }

@@ -1,7 +1,7 @@
 // The glue: passes bytes to page.wasm, whose calls are those of reader/ats_reader.h, and reads the verdict. Not proved.
 // A page and Node share it.
 
-import { hex, joined } from './bytes.mjs';
+import { joined } from './bytes.mjs';
 
 /**
  * What every call answers.
@@ -20,44 +20,37 @@ import { hex, joined } from './bytes.mjs';
  * @typedef {{ shard: bigint, doc: bigint, lower: bigint, upper: bigint }} CatalogRow
  * @typedef {{ term: Uint8Array, weight: number }} Term
  *
- * A root is 32 bytes. A RangeError says that one is not, or that memory ran out: throw the checker away then.
+ * What is shown beside the verdict is there only if it accepts. A root is 32 bytes. A RangeError says that one is not,
+ * or that memory ran out: throw the checker away then.
  * @typedef {object} Checker
- * @property {(proof: Uint8Array, root: Uint8Array, query: string, r: number) => Verdict & { rows: Row[] }} check
+ * @property {(proof: Uint8Array, root: Uint8Array, query: string, r: number) => Verdict & { rows?: Row[] }} check
  *   what `verify` checks. Its rows are best first
- * @property {(proof: Uint8Array, root: Uint8Array, query: string) => Verdict & { docs: number[] }} both
+ * @property {(proof: Uint8Array, root: Uint8Array, query: string) => Verdict & { docs?: number[] }} both
  *   what `both` checks. Its documents rise
  * @property {(proof: Uint8Array, root: Uint8Array, query: string, r: number) =>
- *   Verdict & { rows: CatalogRow[] }} catalog
+ *   Verdict & { rows?: CatalogRow[] }} catalog
  *   what `catalog` checks. Its rows are best first
- * @property {(roots: Uint8Array[]) => Verdict & { root: Uint8Array | undefined }} catalogRoot
- *   the root of the catalog whose shards have these roots, shard 0 first; undefined unless there are 1 to 4,096
- * @property {(file: Uint8Array, root: Uint8Array, doc: number) => Verdict & { text: Uint8Array | undefined }} text
- *   what `fetch` checks. `text` is a view of the file's own bytes, which may be no UTF-8; undefined unless accepted
+ * @property {(roots: Uint8Array[]) => Verdict & { root?: Uint8Array }} catalogRoot
+ *   the root of the catalog whose shards have these roots, shard 0 first, of which there are 1 to 4,096
+ * @property {(file: Uint8Array, root: Uint8Array, doc: number) => Verdict & { text?: Uint8Array }} text
+ *   what `fetch` checks. `text` is a view of the file's own bytes, which may be no UTF-8
  * @property {(file: Uint8Array, oldRoot: Uint8Array, newRoot: Uint8Array) =>
- *   Verdict & { grown: { old: number, new: number } | undefined }} growth
- *   what `growth` checks. `grown` has both numbers of documents; undefined unless accepted
- * @property {(query: string) => Verdict & { terms: Term[] }} query
+ *   Verdict & { grown?: { old: number, new: number } }} growth
+ *   what `growth` checks. `grown` has both numbers of documents
+ * @property {(query: string) => Verdict & { terms?: Term[] }} query
  *   the terms of a query in the order of their bytes, each once, with how often the query has it
- * @property {() => { calls: number, unicode: string }} version
- *   the version of the calls, and that of Unicode by which words are found
  */
 
 const ROW = 24, CATALOG_ROW = 32, TERM = 72, WORD = 64, VERDICT = 32, LINE = 128, ROOT = 32;
 const MOST_ROWS = 1000, MOST_DOCS = 65536, MOST_TERMS = 32;
 
 /**
- * Compiles the module.
- * @param {BufferSource} bytes
- */
-export const compile = bytes => WebAssembly.compile(bytes);
-
-/**
  * A checker with a memory of its own. After an exception throw it away: its memory is in no known state.
  * @param {WebAssembly.Module} module
- * @returns {Promise<Checker>}
+ * @returns {Checker}
  */
-export async function checker(module) {
-  const wasm = /** @type {any} */ ((await WebAssembly.instantiate(module, {})).exports);
+export function checker(module) {
+  const wasm = /** @type {any} */ (new WebAssembly.Instance(module).exports);
 
   // Numbers of the module are in the memory, least byte first.
   const view = (at, size) => new DataView(wasm.memory.buffer, Number(at), size);
@@ -102,7 +95,7 @@ export async function checker(module) {
                         : 'memory';
   };
 
-  // One call: its verdict, its line, and how long it took. What `shown` reads is read only after status 0.
+  // One call: its verdict, its line, how long it took, and what `shown` reads after status 0.
   const verdictOf = (room, call, shown) => {
     const at = room(VERDICT), start = performance.now();
     call(at);
@@ -111,7 +104,7 @@ export async function checker(module) {
       status: it.getUint32(0, true), reason: it.getUint32(4, true), count: Number(it.getBigUint64(8, true)),
       first: it.getBigUint64(16, true), second: it.getBigUint64(24, true), line: lineOf(at, room), ms,
     };
-    return { ...got, ...shown(got.status === 0 ? got : { count: 0 }) };
+    return got.status === 0 ? { ...got, ...shown(got) } : got;
   };
   const list = (at, count, size, read) =>
     Array.from({ length: count }, (_, i) => read(view(at + BigInt(i * size), size), i));
@@ -134,9 +127,7 @@ export async function checker(module) {
 
     catalogRoot: roots => lent((put, room) => {
       const root = room(ROOT), places = [...put(joined(roots.map(checkedRoot))), root];
-      return verdictOf(room, at => wasm.ats_catalog_root(...places, at), ({ first }) => ({
-        root: first === undefined ? undefined : bytesAt(root, ROOT).slice(),
-      }));
+      return verdictOf(room, at => wasm.ats_catalog_root(...places, at), () => ({ root: bytesAt(root, ROOT).slice() }));
     }),
 
     both: (proof, root, query) => lent((put, room) => {
@@ -150,14 +141,14 @@ export async function checker(module) {
     text: (file, root, doc) => lent((put, room) => {
       const places = [...put(file), rootAt(put, root), number(doc)];
       return verdictOf(room, at => wasm.ats_text(...places, at), ({ first, second }) => ({
-        text: first === undefined ? undefined : file.subarray(Number(first), Number(first + second)),
+        text: file.subarray(Number(first), Number(first + second)),
       }));
     }),
 
     growth: (file, oldRoot, newRoot) => lent((put, room) => {
       const places = [...put(file), rootAt(put, oldRoot), rootAt(put, newRoot)];
       return verdictOf(room, at => wasm.ats_growth(...places, at), ({ first, second }) => ({
-        grown: first === undefined ? undefined : { old: Number(first), new: Number(second) },
+        grown: { old: Number(first), new: Number(second) },
       }));
     }),
 
@@ -171,22 +162,5 @@ export async function checker(module) {
         })),
       }));
     }),
-
-    version: () => lent((put, room) => {
-      const at = room(12), calls = wasm.ats_version(at), it = view(at, 12);
-      return { calls, unicode: [0, 4, 8].map(place => it.getUint32(place, true)).join('.') };
-    }),
   };
-}
-
-/**
- * The lines that the command of a check prints for its verdict; those of `fetch` are the text, and not among them.
- * @param {Verdict & { rows?: (Row | CatalogRow)[], docs?: number[], grown?: { old: number, new: number },
- *   root?: Uint8Array }} verdict
- */
-export function linesOf({ status, line, rows = [], docs = [], grown, root }) {
-  if (status !== 0) return [line];
-  if (grown) return [`grown ${grown.old} ${grown.new}`];
-  if (root) return [hex(root)];
-  return [...rows.map((row, i) => [i + 1, ...Object.values(row)].join(' ')), ...docs.map(String)];
 }

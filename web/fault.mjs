@@ -3,21 +3,18 @@
 /**
  * `word` is one of: link (cannot be reached), silent, missing (no such file), busy, cut (ended too soon), long (more
  * than may be), wrong (other bytes than the archive has), input (the question breaks a limit), memory, stopped (the
- * check ended), blocked (the page may not ask this host). `line` is ASCII and names the place. `said` is a sentence for
- * a person, if the word is not enough.
+ * check ended). `line` is ASCII and names the place. sentences.mjs says both to a person.
  */
 export class Fault extends Error {
   /**
    * @param {string} word
    * @param {string} line
-   * @param {string} [said]
    */
-  constructor(word, line, said = '') {
+  constructor(word, line) {
     super(`${word}: ${line}`);
     this.name = 'Fault';
     this.word = word;
     this.line = line;
-    this.said = said;
   }
 }
 

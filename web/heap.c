@@ -57,7 +57,7 @@ Tried rattle_realloc(void *room, u64 kept, u64 size, u64 alignment) {
     u64 k = *(u64 *)((u64)room - HEAD);
     if (size <= LARGEST && class_of(size) <= k) return (Tried){1, (u64)room};
     Tried got = rattle_alloc(size, alignment);
-    if (!got.ok) return (Tried){0, 0};
+    if (!got.ok) return got;
     __builtin_memcpy((void *)got.at, room, kept < size ? kept : size);
     page_give(room);
     return got;

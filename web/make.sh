@@ -13,7 +13,7 @@ trap 'rm -rf "$work"' EXIT
 
 # All that the module may call: the heap, and what clang itself makes on every processor.
 calls='rattle_(alloc|realloc|dealloc)|llvm\.(memset|memmove|memcpy|cttz|ctlz|ctpop|bswap|trap)(\..*)?'
-exports='ats_check ats_both ats_catalog ats_catalog_root ats_text ats_growth ats_query ats_line ats_version page_room page_give'
+exports='ats_check ats_both ats_catalog ats_catalog_root ats_text ats_growth ats_query ats_line page_room page_give'
 # LLVM's own description of memory in wasm64; pointers and whole numbers have the sizes of x86-64.
 layout='e-m:e-p:64:64-p10:8:8-p20:8:8-i64:64-i128:128-n32:64-S128-ni:1:10:20'
 wasm='--target=wasm64-unknown-unknown -mcpu=lime1 -ffunction-sections -fdata-sections --no-default-config -fintegrated-cc1 -Werror'

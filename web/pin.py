@@ -12,7 +12,6 @@ import base64
 import gzip
 import hashlib
 import html
-import json
 import re
 import shutil
 import sys
@@ -31,27 +30,15 @@ def pin(data: bytes) -> str:
 def filled(files: "dict[str, bytes]", said: argparse.Namespace) -> bytes:
     """The page with its pins, by which page.mjs fetches what becomes a worker, and the module."""
     template = (HERE / "index.html").read_text(encoding="utf-8")
-    fetched = {name: pin(data) for name, data in files.items() if name not in ("page.css", "page.mjs")}
+    template = re.sub(r"PIN\((.*?)\)", lambda it: pin(files[it[1]]), template)
     for word, value in (
-        ("PIN(page.css)", pin(files["page.css"])),
-        ("PIN(page.mjs)", pin(files["page.mjs"])),
-        ("PINS", json.dumps(fetched)),
+        ("MODULE", hashlib.sha256(files["page.wasm"]).hexdigest()),
         ("HOSTS", "".join(" " + it for it in said.hosts)),
         ('"NAME"', f'"{html.escape(said.name)}"'),
         ('"ROOT"', f'"{said.root}"'),
     ):
         template = template.replace(word, value)
     return template.encode()
-
-
-def styles() -> str:
-    """The style sheet without comments, and without spaces beside signs that end something."""
-    bare = re.sub(r"/\*.*?\*/", "", (HERE / "page.css").read_text(encoding="utf-8"), flags=re.S)
-    return re.sub(r"\s*([{};,])\s*|(?<=:) ", r"\1", bare)
-
-
-def packed(files: "dict[str, bytes]") -> int:
-    return sum(len(gzip.compress(data, 9, mtime=0)) for data in files.values())
 
 
 def words() -> argparse.Namespace:
@@ -72,15 +59,15 @@ def words() -> argparse.Namespace:
 
 def main(said: argparse.Namespace) -> None:
     files = {f"{name}.mjs": bundle.bundle(name) for name in BUNDLES}
-    files.update({"page.css": styles().encode(), "page.wasm": said.module.read_bytes()})
+    files.update({"page.css": (HERE / "page.css").read_bytes(), "page.wasm": said.module.read_bytes()})
     files["index.html"] = filled(files, said)
     shutil.rmtree(said.out, ignore_errors=True)
     said.out.mkdir(parents=True)
     for name, data in sorted(files.items()):
         (said.out / name).write_bytes(data)
         print(f"{hashlib.sha256(data).hexdigest()}  {name}  {len(data)} bytes")
-    own = {name: data for name, data in files.items() if name != "page.wasm"}
-    print(f"{packed(files)} bytes by gzip, {packed(own)} of them without the module")
+    packed = {name: len(gzip.compress(data, 9, mtime=0)) for name, data in files.items()}
+    print(f"{sum(packed.values())} bytes by gzip, {packed['page.wasm']} of them the module")
 
 
 if __name__ == "__main__":

@@ -26,4 +26,4 @@ export function placeOf(name) {
 export const fits = (name, of) => name.includes('-') === isCatalog(of) && placeOf(name).shard < of.shards.length;
 
 /** @type {(name: string) => string} as a person reads it */
-export const documentOf = name => name.replace(/^(\d+)-(\d+)$/, '$2 of archive $1').replace(/^/, 'document ');
+export const documentOf = name => `document ${name.replace(/^(\d+)-(\d+)$/, '$2 of archive $1')}`;

@@ -57,7 +57,7 @@ class Writer {
 
   /** @type {(magic: string, fields: number[], archive: Archive) => void} how every file begins */
   begin(magic, fields, { header }) {
-    this.put(Uint8Array.from([...magic].map(sign => sign.charCodeAt(0))));
+    this.put(new TextEncoder().encode(magic));
     fields.forEach(field => this.u8(field));
     this.put(header);
   }

@@ -8,7 +8,7 @@ import { sha256 } from './sha256.mjs';
 import { leafDigest, rootOf } from './tree.mjs';
 
 const MOST_PUBLICATION = 2 ** 20, MOST_GROWTH = 4096, MOST_STEPS = 64;
-const CATALOG_TAG = 2, LATEST = 'publication.txt', numbered = number => `publication-${number}.txt`;
+const CATALOG_TAG = 2, LATEST = 'publication.txt';
 const SHARD = new RegExp(['^shard: [0-9]+', 'root: ([0-9a-f]{64})', 'format: [12]', 'documents: [0-9]+',
   'before: (none|[0-9a-f]{64})', 'growth: (none|[a-z0-9][a-z0-9.-]{0,63})$'].join('\n'), 'gm');
 
@@ -45,7 +45,7 @@ async function* backward(host, question) {
   let one = await read(host, LATEST, question);
   for (let steps = 0; one && steps < MOST_STEPS; steps++) {
     yield one;
-    one = one.number > 1 ? await read(host, numbered(one.number - 1), question) : undefined;
+    one = one.number > 1 ? await read(host, `publication-${one.number - 1}.txt`, question) : undefined;
   }
 }
 

@@ -57,20 +57,20 @@ export class Reading {
   }
 
   /**
-   * The text and where the sequences stand in it, at most so many as one looks through.
+   * A title, the text, and where the sequences stand in it, at most so many as one looks through.
    * @param {string} text
    * @param {string[][]} sequences
    */
   whole(text, sequences) {
     const all = apart(this.#hits(text, sequences)), hits = all.slice(0, MOST_HITS).map(({ from, to }) => [from, to]);
-    return { text, hits, count: all.length, isLaidOut: isLaidOut(text) };
+    return { title: titled(text, false).title, text, hits, count: all.length, isLaidOut: isLaidOut(text) };
   }
 
   /** @param {string} text */
   #wordsOf(text) {
     const words = [];
-    for (const { 0: piece, index = 0 } of text.matchAll(BETWEEN_SPACES)) {
-      for (const { term, from, to } of this.#inPiece(piece)) words.push({ term, from: index + from, to: index + to });
+    for (const { 0: piece, index } of text.matchAll(BETWEEN_SPACES)) {
+      for (const word of moved(this.#inPiece(piece), index)) words.push(word); // more than a call may have arguments
     }
     return words;
   }
@@ -151,7 +151,7 @@ export class Reading {
    * @type {(text: string) => Bag | undefined}
    */
   #bag(text) {
-    const { status, reason, terms } = this.#query(text);
+    const { status, reason, terms = [] } = this.#query(text);
     if (status !== 0 && reason === MEMORY) throw new RangeError('out of memory');
     if (status !== 0 && reason !== NO_TERM) return undefined;
     const words = new Map(terms.map(({ term, weight }) => [new TextDecoder().decode(term), weight]));
@@ -161,9 +161,9 @@ export class Reading {
 
 /**
  * The same words, so many units later.
- * @type {(words: Word[], by: number) => { term: string, from: number, to: number }[]}
+ * @type {(words: Word[], by?: number) => { term: string, from: number, to: number }[]}
  */
-const moved = (words, by) => words.map(({ term, from, to }) => ({ term, from: from + by, to: to + by }));
+const moved = (words, by = 0) => words.map(({ term, from, to }) => ({ term, from: from + by, to: to + by }));
 
 /**
  * Whether all are there, and the first bag has just what the others have.

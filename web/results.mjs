@@ -53,15 +53,14 @@ export class Results {
   #item({ way, rows }, doc, i) {
     const name = documentOf(doc), link = element('a', capital(name), { href: this.#linkTo(doc), className: 'open' });
     const title = element('h3', [link], { className: 'title', dir: 'auto' });
-    const text = element('p', COMING, { className: 'text', dir: 'auto' });
+    const text = element('p', '', { className: 'text', dir: 'auto' });
     const says = way === 'best' ? `${i + 1}. ${capital(name)} · ${scoreOf(rows[i])}` : capital(name);
-    const frame = element('div', [title, text], { className: 'frame' });
-    frame.setAttribute('role', 'group');
-    frame.setAttribute('aria-label', `From the text of ${name}`);
+    const ariaLabel = `From the text of ${name}`;
+    const frame = element('div', [title, text], { className: 'frame', role: 'group', ariaLabel });
     const small = element('p', [element('span', says, { className: 'says' })], { className: 'small' });
     const item = element('li', [frame, small]);
     item.dataset.doc = doc;
-    item.setAttribute('aria-busy', 'true');
+    awaited(item);
     return item;
   }
 
@@ -69,27 +68,28 @@ export class Results {
   async #fill(answer, doc, item) {
     const { signal } = this.#end, asking = /** @type {import('./asking.mjs').Asking} */ (this.#asking);
     try {
-      const { got, read } = await asking.read(answer, 'excerpt', doc, [answer.words.marked, answer.titles], signal);
+      const { got, read } = await asking.read(answer, 'excerpt', doc, signal);
       if (signal.aborted) return;
       if (read) text(item, read);
-      else withheld(item, reasonOf(got, 'text'), got.line);
+      else {
+        part(item, '.open').replaceWith(part(item, '.open').textContent);
+        note(item, `✗ This text is refused: it is not shown. ${reasonOf(got, 'text')} The check’s line: ${got.line}`);
+      }
     } catch (fault) {
       if (signal.aborted) return;
       this.#missing(answer, doc, item, faultOf(fault));
     }
-    item.removeAttribute('aria-busy');
+    item.ariaBusy = null;
   }
 
   /** @type {(answer: Answer, doc: string, item: HTMLElement, why: import('./fault.mjs').Fault) => void} */
   #missing(answer, doc, item, why) {
-    const again = element('button', 'Ask again for this text', { type: 'button', className: 'small' });
-    part(item, '.text').textContent = '';
-    const noted = note(item, `The text did not come. ${faultWords(why)}`, 'What the page saw:', why.line);
-    noted.append(' ', again);
+    const again = element('button', 'Ask again for this text', { className: 'small' });
+    const noted = note(item, `The text did not come. ${faultWords(why)} What the page saw: ${why.line} `);
+    noted.append(again);
     again.addEventListener('click', () => {
-      part(item, '.text').textContent = COMING;
       noted.remove();
-      item.setAttribute('aria-busy', 'true');
+      awaited(item);
       this.#fill(answer, doc, item);
     });
   }
@@ -98,9 +98,16 @@ export class Results {
 /** @returns {any} */
 const part = (item, name) => item.querySelector(name);
 
-function note(item, says, whose, line) {
-  const it = element('p', `${says} `, { className: 'small note' });
-  it.append(whose, ' ', element('code', line));
+/** A text is on its way to this item. */
+function awaited(item) {
+  part(item, '.text').textContent = COMING;
+  item.ariaBusy = 'true';
+}
+
+/** Says why there is no text. */
+function note(item, says) {
+  const it = element('p', says, { className: 'small note' });
+  part(item, '.text').textContent = '';
   item.append(it);
   return it;
 }
@@ -110,11 +117,4 @@ function text(item, { title, text: shown, marks, before, after, length }) {
   part(item, '.text').replaceChildren(before ? '… ' : '', ...marked(shown, marks), after ? ' …' : '');
   if (length === 0) part(item, '.text').replaceChildren(element('em', 'This document is empty.'));
   part(item, '.small').append(' · ', element('span', '✓ text checked', { className: 'checked' }));
-}
-
-function withheld(item, reason, line) {
-  part(item, '.text').replaceChildren();
-  part(item, '.open').replaceWith(part(item, '.open').textContent);
-  item.append(element('p', '✗ This text is refused: it is not shown', { className: 'verdict' }));
-  note(item, reason, 'The check’s line:', line);
 }

@@ -34,12 +34,13 @@ export function keep(root, grown) {
   }
 }
 
+export const COMPARE = 'Compare it with the root that the owner published.';
 /** How a root came, in a sentence. */
 const ORIGINS = {
   page: 'It is built into this page, which whoever made the page stands for.',
-  link: 'From the link that you opened. Compare it with the root that the owner published.',
-  file: 'From the file that you opened. Compare it with the root that the owner published.',
-  grown: 'The archive grew to this root. Compare it with the root that the owner published.',
+  link: `From the link that you opened. ${COMPARE}`,
+  file: `From the file that you opened. ${COMPARE}`,
+  grown: `The archive grew to this root. ${COMPARE}`,
   typed: 'You entered it. It must come from the archive’s owner.',
 };
 

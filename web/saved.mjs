@@ -89,13 +89,11 @@ const proofNames = of => of.way === 'all' && isCatalog(of) ? of.shards.map((_, i
  */
 export function saved(answer, moment) {
   const { way, root, shards, r, query, titles, proofs, docs: documents, texts } = answer;
-  const rows = way === 'best' ? { rows: r, algorithm: 'tnra' } : {};
-  const about = { format: FORMAT, root, way, ...rows, query, titles, date: moment.toISOString(), documents };
-  const escaped = it => `\\u${it.charCodeAt(0).toString(16).padStart(4, '0')}`;
-  const ascii = JSON.stringify(about, null, 1).replace(/[\u007f-\uffff]/g, escaped);
+  const rows = way === 'best' ? r : undefined, date = moment.toISOString();
+  const about = JSON.stringify({ format: FORMAT, root, way, rows, query, titles, date, documents }, null, 1);
   const names = documents.filter(name => texts.has(name)), encode = text => new TextEncoder().encode(text);
   const files = [
-    [ABOUT, encode(ascii)], [HOW, encode(howToCheck(answer, names))], [QUERY, encode(query)],
+    [ABOUT, encode(about)], [HOW, encode(howToCheck(answer, names))], [QUERY, encode(query)],
     ...(isCatalog(answer) ? [[ROOTS, encode(shards.map(it => `${it}\n`).join(''))]] : []),
     ...proofNames(answer).map((name, i) => [name, proofs[i]]), ...names.map(name => [`${name}.text`, texts.get(name)])
   ];
@@ -117,7 +115,7 @@ export async function opened(file) {
   for (const [name, bytes] of files) {
     if (name.endsWith('.text') && isName(name.slice(0, -5))) texts.set(name.slice(0, -5), bytes);
   }
-  return proofs.length ? { ...of, proofs, texts } : undefined;
+  return proofs.length ? { ...of, name: file.name, proofs, texts } : undefined;
 }
 
 const isRows = n => Number.isInteger(n) && n >= 0 && n < 2 ** 32;
@@ -141,13 +139,13 @@ export const fileNameOf = ({ query }, day) =>
 // ---- links and lines to cite
 
 /**
- * The part of a link after `#`: the root, the question, and the document that is open.
+ * The part of a link from `#` on: the root, the question, and the document that is open.
  * @param {{ root: string, way?: string, typed?: string, r?: number }} question
  * @param {{ host?: string, doc?: string }} more
  */
 export function linkOf({ root, way, typed }, { host, doc }) {
   const parts = Object.entries({ host, root, way, query: typed, doc }).filter(([, value]) => value !== undefined);
-  return new URLSearchParams(/** @type {[string, string][]} */ (parts)).toString();
+  return `#${new URLSearchParams(/** @type {[string, string][]} */ (parts))}`;
 }
 
 /**

@@ -53,6 +53,10 @@ const REASONS = {
   46: 'The file of the growth leads to other texts than those under your root.',
   47: 'The file of the growth leads to other texts than those under the root that is offered.',
 };
+// Which of these has numbers that count from 0.
+const COUNTED = new Set([20, 21, 22, 23, 24, 25, 30, 31, 32]);
+const COUNTING =
+  'Archives, rows, entries and documents count from 0, and so do query words, in the order of their bytes, once each.';
 const NAMES = { best: 'proof', all: 'proof', text: 'file of the text', growth: 'file of the growth' };
 
 /**
@@ -64,15 +68,10 @@ const NAMES = { best: 'proof', all: 'proof', text: 'file of the text', growth: '
  */
 export function reasonOf({ reason, first, second, shard }, what = 'best') {
   const said = REASONS[reason] ?? 'The check gave a reason that this page does not know.';
-  const meant = { n: first, m: second, it: NAMES[what] };
-  return (shard === undefined ? '' : `Archive ${shard}: `) + said.replace(/\{(\w+)\}/g, (_, name) => meant[name]);
+  const meant = { n: first, m: second, it: NAMES[what] }, isCounted = COUNTED.has(reason) || shard !== undefined;
+  return (shard === undefined ? '' : `Archive ${shard}: `) + said.replace(/\{(\w+)\}/g, (_, name) => meant[name])
+    + (isCounted ? ` ${COUNTING}` : '');
 }
-
-// Which of these has numbers that count from 0.
-const COUNTED = new Set([20, 21, 22, 23, 24, 25, 30, 31, 32]);
-export const countingOf = ({ reason, shard }) => COUNTED.has(reason) || shard !== undefined
-  ? 'Archives, rows, entries and documents count from 0, and so do query words, in the order of their bytes, once each.'
-  : '';
 
 const FAULTS = {
   link: 'The host cannot be reached. Look at your connection, and ask again.',
@@ -85,11 +84,25 @@ const FAULTS = {
   input: 'This question cannot be answered.',
   memory: 'This browser ran out of memory. Close other pages, and ask again.',
   stopped: 'The check stopped before it had a verdict. Load the page again, and ask again.',
-  blocked: 'Take the page that the archive’s owner made for it.',
 };
 
-/** @type {(fault: { word: string, said?: string }) => string} a sentence for a fault */
-export const faultWords = ({ word, said }) => said || (FAULTS[word] ?? FAULTS.link);
+/** @type {[RegExp, string][]} what some faults mean, by word and line */
+const PLACES = [
+  [/^input .* (\d+) documents to look into, of at most (\d+)$/,
+    'To show that no document is missing, $1 documents have to be looked into, and this page does so for at most $2. '
+      + 'Add a rarer word.'],
+  [/^missing .*head.*/, 'This host has no folder of the archive with this root.'],
+  [/^missing .*saved file/, 'The saved file does not have it.'],
+  [/^wrong host: archives of another catalog$/,
+    'The host’s list of archives is not this catalog’s. Ask another host, and tell the owner.'],
+];
+
+/** @type {(fault: { word: string, line: string }) => string} a sentence for a fault */
+export function faultWords({ word, line }) {
+  const all = `${word} ${line}`, place = PLACES.find(([sign]) => sign.test(all));
+  const [, shard] = /^host: shard (\d+): /.exec(line) ?? [];
+  return (shard ? `Archive ${shard}: ` : '') + (place ? all.replace(...place) : FAULTS[word] ?? FAULTS.link);
+}
 
 /** @param {string} text */
 export const capital = text => text.replace(/^./, it => it.toUpperCase());
@@ -107,40 +120,37 @@ export const afterRefusal = from => from
 
 /**
  * The line above an accepted answer, which says what is proved.
- * @param {{ way: string, found: number, r: number, all: number, words: number, archives: number }} answer how many were
- *   found, of how many
+ * @param {import('./asking.mjs').Answer} answer
  */
-export function headingOf({ way, found, r, all, words, archives }) {
-  const of = `of ${documents(all)}${archives > 1 ? ` in ${number(archives)} archives` : ''}`;
+export function headingOf({ way, docs: { length: found }, found: together, r, all, words, shards }) {
+  const of = `of ${documents(all)}${shards.length > 1 ? ` in ${number(shards.length)} archives` : ''}`;
+  const them = words.all.length === 1 ? 'this word' : `${way === 'all' ? 'every one' : 'any'} of these words`;
+  if (found === 0) return `No document has ${them}`;
   if (way === 'all') {
-    if (found === 0) return words === 1 ? 'No document has this word' : 'No document has every one of these words';
-    const every = words === 1 ? 'this word' : 'every one of these words';
-    return found === 1 ? `Checked: 1 ${of} has ${every}, and no other`
-                       : `Checked: ${number(found)} ${of} have ${every}, and no others`;
+    const none = together?.docs.length === 0 ? ', none with them together' : '';
+    return (found === 1 ? `Checked: 1 ${of} has ${them}, and no other`
+                        : `Checked: ${number(found)} ${of} have ${them}, and no others`) + none;
   }
-  if (found === 0) return words === 1 ? 'No document has this word' : 'No document has any of these words';
-  const any = words === 1 ? 'this word' : 'any of these words';
   if (found < r)
-    return found === 1 ? `Checked: the only one ${of} that has ${any}`
-                       : `Checked: all ${number(found)} that have ${any}, ${of}`;
+    return found === 1 ? `Checked: the only one ${of} that has ${them}`
+                       : `Checked: all ${number(found)} that have ${them}, ${of}`;
   return `Checked: the best ${found === 1 ? 'one' : number(found)} ${of}, and none left out`;
 }
 
 /**
  * What was checked of an accepted answer, in full.
- * @param {{ way: string, found: number, r: number, root: string, archives: number }} answer
+ * @param {import('./asking.mjs').Answer} answer
  */
-export function checkedOf({ way, found, r, root, archives }) {
-  const best = found === 1 ? 'this is the best document' : `these are the best ${number(found)} documents, best first`;
-  const what = archives > 1 ? 'proofs show of the archives' : 'proof shows of the archive';
+export function checkedOf({ way, docs: { length: found }, r, root, shards }) {
+  const what = shards.length > 1 ? 'proofs show of the archives' : 'proof shows of the archive';
   const hashed = `This page rebuilt the hashes of all that the ${what}, up to the root ${root}, and checked that`;
-  if (way === 'all') {
-    const these = found === 0 ? 'no document has' : 'these documents, and no others, have';
-    return `${hashed} ${these} every word of the query.`;
-  }
+  if (way === 'all')
+    return `${hashed} ${found ? 'these documents, and no others, have' : 'no document has'} every word of the query.`;
   if (found === 0) return `${hashed} no document scores above 0 for this query.`;
-  if (found < r) return `${hashed} ${best}, and that no other document scores above 0.`;
-  return `${hashed} ${best}: no other document can score higher than ${found === 1 ? 'it' : 'the last one'}.`;
+  const [best, last] = found === 1 ? ['this is the best document', 'it']
+    : [`these are the best ${number(found)} documents, best first`, 'the last one'];
+  return `${hashed} ${best}${found < r ? ', and that no other document scores above 0'
+    : `: no other document can score higher than ${last}`}.`;
 }
 
 /**

@@ -1,6 +1,7 @@
 // Trees of RFC 6962: which digests a section of a proof needs, and a tree of which only some parts are known.
 
 import { same } from './bytes.mjs';
+import { hostFault } from './fault.mjs';
 import { sha256 } from './sha256.mjs';
 
 const LEAF = 0, NODE = 1;
@@ -80,27 +81,26 @@ export class KnownTree {
   /**
    * @param {number} n
    * @param {Uint8Array} [root] which nothing can be added without
+   * @param {string} file that has its parts
    */
-  constructor(n, root = new Uint8Array(0)) {
+  constructor(n, root = new Uint8Array(0), file = '') {
     this.#n = n;
     this.#root = root;
+    this.file = file;
   }
 
   /**
-   * Adds a part by the digests of its leaves and its audit path. False if they do not belong to the root: then nothing
-   * is added.
-   * @type {(start: number, leaves: Uint8Array[], path: Uint8Array[]) => boolean}
+   * Adds a part by the digests of its leaves and its audit path, which comes next in these fields. If they do not
+   * belong to the root, nothing is added, and it is the host's fault.
+   * @type {(start: number, leaves: Uint8Array[], fields: import('./bytes.mjs').Fields) => void}
    */
-  add(start, leaves, path) {
-    const beside = besides(this.#n, start, leaves.length);
-    if (leaves.length === 0 || path.length !== beside.length) return false;
-    let top = rootOf(leaves);
-    for (let i = beside.length - 1; i >= 0; i--)
-      top = beside[i].right ? nodeDigest(top, path[i]) : nodeDigest(path[i], top);
-    if (!same(top, this.#root)) return false;
+  add(start, leaves, fields) {
+    const beside = besides(this.#n, start, leaves.length), path = fields.digests(beside.length);
+    const over = (top, digest, i) => beside[i].right ? nodeDigest(top, digest) : nodeDigest(digest, top);
+    if (leaves.length === 0 || !same(path.reduceRight(over, rootOf(leaves)), this.#root))
+      throw hostFault('wrong', this.file, `leaf ${start}`);
     beside.forEach((part, i) => this.#known.set(keyOf(part.start, part.count), path[i]));
     this.know(start, leaves);
-    return true;
   }
 
   /** @type {(start: number, leaves: Uint8Array[]) => void} */

@@ -6,8 +6,8 @@
  */
 export const $ = id => document.getElementById(id);
 
-/** @type {(id: string, isShown: boolean) => void} */
-export const show = (id, isShown) => { $(id).hidden = !isShown; };
+/** @type {(ids: string, isShown: boolean) => void} shows or hides the elements of these names, with spaces between */
+export const show = (ids, isShown) => ids.split(' ').forEach(id => { $(id).hidden = !isShown; });
 
 /** @type {(id: string, text: string) => void} */
 export const write = (id, text) => { $(id).textContent = text; };

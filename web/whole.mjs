@@ -21,11 +21,10 @@ export class Whole {
 
   /**
    * Shows a text that the check accepted.
-   * @param {string} title
-   * @param {{ text: string, hits: [number, number][], count: number, isLaidOut: boolean }} whole
+   * @param {{ title: string, text: string, hits: [number, number][], count: number, isLaidOut: boolean }} whole
    */
-  open(title, whole) {
-    const { text, hits, isLaidOut } = whole;
+  open(whole) {
+    const { title, text, hits, isLaidOut } = whole;
     this.#open = whole;
     this.#first = -1;
     this.#chunks = chunksOf(text);
@@ -33,7 +32,7 @@ export class Whole {
     $('whole-text').classList.toggle('laid-out', isLaidOut);
     const empty = element('em', 'This document is empty.');
     $('whole-text').replaceChildren(...(text ? this.#chunks.map(({ place }) => place) : [empty]));
-    ['earlier', 'later', 'hit'].forEach(id => show(id, hits.length > 0));
+    show('earlier later hit', hits.length > 0);
     show('whole', true);
     $('whole').scrollIntoView({ block: 'start' });
     $('whole-title').focus({ preventScroll: true });

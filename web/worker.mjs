@@ -10,42 +10,34 @@ import { HttpHost } from './http.mjs';
 import { Reading } from './reading.mjs';
 
 const QUIET_MS = 50; // between two reports of progress
-const READINGS = ['excerpt', 'whole', 'holds'];
 
 /** @typedef {(call: string, words: any, how: import('./question.mjs').How) => Promise<any>} Answer */
 
-/** @type {(module: WebAssembly.Module) => Answer} checks one call after another: each awaits only the checker */
-function checking(module) {
-  /** @type {Promise<{ checks: import('./check.mjs').Checker, reading: Reading }> | undefined} */
-  let ready;
-  let turn = Promise.resolve();
-  const made = async () => {
-    const checks = await checker(module);
-    return { checks, reading: new Reading(checks.query) };
+/** @param {WebAssembly.Module} module */
+function callsOf(module) {
+  const checks = checker(module), reading = new Reading(checks.query);
+  // Of a text: nothing is read of one that the check refuses.
+  const ofText = call => (file, root, doc, ...words) => {
+    const { text, ...got } = checks.text(file, root, doc);
+    return { got, read: text && reading[call](new TextDecoder().decode(text), ...words) };
   };
+  const ofTexts = Object.fromEntries(['excerpt', 'whole', 'holds'].map(call => [call, ofText(call)]));
+  return { ...checks, ...ofTexts, sequence: text => reading.sequence(text) };
+}
 
-  const answer = async (call, words) => {
+/** @type {(module: WebAssembly.Module) => Answer} checks one call after another */
+function checking(module) {
+  /** @type {any} */
+  let calls;
+  return async (call, words) => {
     try {
-      ready ??= made();
-      const { checks, reading } = await ready;
-      if (READINGS.includes(call)) return textRead(checks, reading, call, words);
-      return call === 'sequence' ? reading.sequence(words[0]) : checks[call](...words);
+      calls ??= callsOf(module);
+      return calls[call](...words);
     } catch (fault) {
-      ready = undefined; // its memory is in no known state
+      calls = undefined; // its memory is in no known state
       throw fault;
     }
   };
-  return (call, words) => {
-    const answered = turn.then(() => answer(call, words));
-    turn = answered.catch(() => {});
-    return answered;
-  };
-}
-
-/** What is asked of a text that the check accepts; nothing of another one is looked at. */
-function textRead(checks, reading, call, [file, root, doc, ...words]) {
-  const { text, ...got } = checks.text(file, root, doc);
-  return { got, read: text && reading[call](new TextDecoder().decode(text), ...words) };
 }
 
 /** @type {(bases: string[]) => Answer} assembles answers of the hosts at these addresses */

@@ -55,6 +55,16 @@ class Handler(server.Handler):
         self.wfile.write(changed.body)
         self.close_connection = bool(changed.length)
 
+    def do_OPTIONS(self) -> None:
+        self.send_response(204)
+        self.send_header("Content-Length", "0")
+        self.end_headers()
+
+    def end_headers(self) -> None:
+        self.send_header("Access-Control-Allow-Origin", "*")
+        self.send_header("Access-Control-Allow-Headers", "Range")
+        super().end_headers()
+
     def asked(self) -> "tuple[Request, Reply]":
         path, file = self.path.split("?")[0], Path(self.translate_path(self.path))
         wanted = re.fullmatch(r"bytes=([0-9]+)-([0-9]+)", self.headers.get("Range", ""))

@@ -1,17 +1,18 @@
 // In a browser: asks a source, as the page does, what answers.mjs drew, and compares. Returns what was seen.
 
 import { bytesOfHex, hex } from './bytes.mjs';
-import { sourceAt } from './source.mjs';
+import { Calls } from './calls.mjs';
 
 const digestOf = async bytes => hex(new Uint8Array(await crypto.subtle.digest('SHA-256', bytes)));
 const termsOf = terms => terms.map(({ term, weight }) => ({ term: bytesOfHex(term), weight }));
 
 const asked = (source, { call, words: { terms, ...words } }, how) =>
-  source(call, terms ? { ...words, terms: termsOf(terms) } : words, how);
+  source.call(call, terms ? { ...words, terms: termsOf(terms) } : words, how);
 
 /** Does something with a source of hosts, with spaces between, and how long it took. */
 async function timed(place, act) {
-  const worker = new Worker('/worker.mjs', { type: 'module' }), source = sourceAt(() => worker, place.split(' '));
+  const worker = new Worker('/worker.mjs', { type: 'module' });
+  const source = new Calls(() => worker, { bases: place.split(' ') }, true);
   const start = performance.now(), got = await act(source), ms = Math.round(performance.now() - start);
   await new Promise(done => setTimeout(done, 200)); // what is kept is stored within a moment
   worker.terminate();
@@ -57,7 +58,7 @@ export const fault = (place, it, stopAfter) => timed(place, async source => {
 export async function best(place, { root, ...words }, isKept) {
   if (!isKept) await emptied();
   const { took } = await timed(place, async source => {
-    const roots = await source('roots', { root }), start = performance.now();
+    const roots = await source.call('roots', { root }), start = performance.now();
     await asked(source, { call: 'ranked', words: { ...words, roots } });
     return { took: Math.round(performance.now() - start) };
   });

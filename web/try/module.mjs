@@ -2,14 +2,14 @@
 
 import { existsSync, readFileSync } from 'node:fs';
 import { bytesOfHex, hex } from '../bytes.mjs';
-import { checker, compile } from '../check.mjs';
+import { checker } from '../check.mjs';
 
 const module = new URL('../out/page.wasm', import.meta.url);
 
 /** Checks that throw if the module does not accept, or undefined if there is no module. */
 export async function checkOf() {
   if (!existsSync(module)) return undefined;
-  const it = await checker(await compile(readFileSync(module)));
+  const it = checker(await WebAssembly.compile(readFileSync(module)));
   const accepted = ({ status, line }, about) => {
     if (status !== 0) throw new Error(`the check refuses ${about}: ${line}`);
   };
@@ -18,7 +18,8 @@ export async function checkOf() {
     query: it.query,
     ranked(proof, root, query, terms, r) {
       accepted(it.check(proof, bytesOfHex(root), query, r), JSON.stringify(query));
-      if (spelt(it.query(query).terms) !== spelt(terms)) throw new Error(`other terms of ${JSON.stringify(query)}`);
+      const { terms: own = [] } = it.query(query);
+      if (spelt(own) !== spelt(terms)) throw new Error(`other terms of ${JSON.stringify(query)}`);
     },
     milliseconds(proof, root, query, r, isCatalog) {
       const got = it[isCatalog ? 'catalog' : 'check'](proof, bytesOfHex(root), query, r);

@@ -24,15 +24,14 @@
     kind: $('answer').className,
     verdict: text('verdict'),
     said: text('said'),
-    line: $('line-place').hidden ? '' : `${text('line-says')} ${text('line')}`,
+    line: text('line'),
     state: text('state'),
-    notes: text('notes'),
     rows: $('list').hidden ? [] : [...$('list').children].map(rowsOf),
     more: !$('more').hidden,
     hash: location.hash,
     checked: $('how').hidden ? '' : text('checked'),
     facts: $('how').hidden ? '' : text('facts'),
-    other: !$('other-place').hidden,
+    other: !$('other').hidden,
   });
   const settled = async () => {
     for (let i = 0; document.querySelector('#list [aria-busy]') && i < 6000; i++) await moment();
@@ -148,12 +147,12 @@
       return copied;
     },
 
-    // What the page says of a newer root, once it does.
-    async newer() {
-      for (let i = 0; $('newer').hidden && i < 2000; i++) await moment();
+    // What the page says of another root, once it does.
+    async offer() {
+      for (let i = 0; $('offer').hidden && i < 2000; i++) await moment();
       return {
-        kind: $('newer').className, verdict: text('newer-verdict'), said: text('newer-said'), root: text('newer-root'),
-        line: $('newer-line-place').hidden ? '' : text('newer-line'), take: !$('newer-tools').hidden,
+        kind: $('offer').className, verdict: text('offer-verdict'), root: text('offer-root'),
+        take: !$('offer-tools').hidden,
       };
     },
 

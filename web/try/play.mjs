@@ -1,7 +1,7 @@
 // Plays the vectors of the checks and of words with page.wasm: in a page that web/test serves, or in Node:
 // node web/try/play.mjs web/out
-import { bytesOfHex as bytesOf, joined } from '../bytes.mjs';
-import { checker, compile, linesOf } from '../check.mjs';
+import { bytesOfHex as bytesOf, hex, joined } from '../bytes.mjs';
+import { checker } from '../check.mjs';
 
 const FILES = ['proofs', 'changed', 'made', 'inputs', 'large', 'both', 'catalogs', 'texts', 'growths', 'words'];
 
@@ -63,9 +63,17 @@ function* cases(it, files) {
     yield { file: 'growths', about, status, lines, got: it.growth(spelt(file), bytesOf(old), bytesOf(now)) };
   }
   for (const { text, terms } of files.words.filter(isQuery)) {
-    const got = it.query(text), shown = got.terms.map(({ term, weight }) => [new TextDecoder().decode(term), weight]);
+    const got = it.query(text), shown = got.terms?.map(({ term, weight }) => [new TextDecoder().decode(term), weight]);
     yield { file: 'words', about: text, status: 0, lines: terms, got, shown };
   }
+}
+
+/** The lines that the command of a check prints for its verdict; those of `fetch` are the text, and not among them. */
+function linesOf({ status, line, rows = [], docs = [], grown, root }) {
+  if (status !== 0) return [line];
+  if (grown) return [`grown ${grown.old} ${grown.new}`];
+  if (root) return [hex(root)];
+  return [...rows.map((row, i) => [i + 1, ...Object.values(row)].join(' ')), ...docs.map(String)];
 }
 
 // A text with some terms, and no more than a query may have.
@@ -74,7 +82,7 @@ const isQuery = ({ terms }) =>
 
 /** Plays all vectors. Returns the numbers that passed, by file, and what failed. */
 export async function play(module, files) {
-  const it = await checker(module), passed = {}, failed = [], times = [];
+  const it = checker(module), passed = {}, failed = [], times = [];
   for (const { file, about, status, lines, bytes, got, shown = linesOf(got) } of cases(it, files)) {
     if (got.status === status && same(shown, lines)) passed[file] = (passed[file] ?? 0) + 1;
     else failed.push(`${file}: ${about}: status ${got.status} ${linesOf(got)[0]}`);
@@ -87,13 +95,13 @@ const same = (a, b) => JSON.stringify([...a]) === JSON.stringify([...b]);
 
 async function inPage() {
   const json = async name => [name, await (await fetch(`/vectors/${name}.json`)).json()];
-  const module = await compile(await (await fetch('/page.wasm')).arrayBuffer());
+  const module = await WebAssembly.compile(await (await fetch('/page.wasm')).arrayBuffer());
   return play(module, Object.fromEntries(await Promise.all(FILES.map(json))));
 }
 
 async function inNode(folder) {
   const { readFileSync } = await import('node:fs');
-  const module = await compile(readFileSync(`${folder}/page.wasm`));
+  const module = await WebAssembly.compile(readFileSync(`${folder}/page.wasm`));
   const read = name => [name, JSON.parse(readFileSync(new URL(`../../vectors/${name}.json`, import.meta.url), 'utf8'))];
   return play(module, Object.fromEntries(FILES.map(read)));
 }

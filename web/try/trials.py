@@ -18,15 +18,16 @@ HERE = Path(__file__).resolve().parent
 PERSON = (HERE / "person.js").read_text(encoding="utf-8")
 QUERY = "blood count"
 SAYS = ["1. Document 31 · score 80138", "2. Document 10 · score 38892", "3. Document 28 · score 28252"]
+REFUSED = "The check’s line: refused: "
 READY, ASKED = "Ready.", "The link has a question. Press Search."
 # Not by deleting the store, which waits until each page that had it open is gone.
 FORGETTING = """new Promise(done => {
   localStorage.clear();
-  const opening = indexedDB.open('ats-ranges', 1), stores = ['ranges', 'sizes'];
-  opening.onupgradeneeded = () => stores.forEach(name => opening.result.createObjectStore(name));
+  const opening = indexedDB.open('ats-ranges', 1);
+  opening.onupgradeneeded = () => opening.result.createObjectStore('ranges');
   opening.onsuccess = () => {
-    const all = opening.result.transaction(stores, 'readwrite');
-    stores.forEach(name => all.objectStore(name).clear());
+    const all = opening.result.transaction('ranges', 'readwrite');
+    all.objectStore('ranges').clear();
     all.oncomplete = () => { opening.result.close(); done(0); };
   };
   opening.onerror = opening.onblocked = () => done(0);
@@ -36,7 +37,7 @@ FORGETTING = """new Promise(done => {
 HOLDING = """new Promise(done => {
   const opening = indexedDB.open('ats-ranges', 1);
   opening.onsuccess = () => {
-    const held = opening.result.transaction(['ranges', 'sizes'], 'readwrite').objectStore('ranges');
+    const held = opening.result.transaction('ranges', 'readwrite').objectStore('ranges');
     const hold = () => { held.get('').onsuccess = hold; };
     hold();
     done(0);
@@ -124,7 +125,7 @@ class Person:
         """Opens the page for an archive, over a host with these publications. Returns what is offered."""
         self.host.folders[1] = self.world.shelves[shelf]
         self.visit(name)
-        return self.do("newer")
+        return self.do("offer")
 
     def ask(self, query: str = QUERY, all_of: bool = False) -> Any:
         return self.do("ask", query=query, all=all_of)
@@ -161,7 +162,7 @@ def try_answers(me: Person) -> None:
     for all_of in (False, True):
         me.ask(QUERY, all_of)
         got = me.do("lie")
-        me.see(got["kind"] == "bad" and got["line"].startswith("refused: ") and got["isSeen"], "a lie", got)
+        me.see(got["kind"] == "bad" and got["line"].startswith(REFUSED) and got["isSeen"], "a lie", got)
 
 
 def try_questions(me: Person) -> None:
@@ -171,19 +172,19 @@ def try_questions(me: Person) -> None:
     me.shows(me.ask("zyzzyva qwxz"), "nothing found of two", verdict="✓ No document has any of these words")
     got = me.ask("blood parrot zyzzyva", True)
     me.shows(got, "no document", verdict="✓ No document has every one of these words")
-    me.see("zyzzyva" in got["notes"], "the word that none has", got)
+    me.see("zyzzyva" in got["said"], "the word that none has", got)
     absent = "No document has “\u2068zyzzyva\u2069”."
-    me.shows(me.ask("blood zyzzyva"), "a word that is absent", kind="good", notes=absent)
+    me.shows(me.ask("blood zyzzyva"), "a word that is absent", kind="good", said=absent)
     for query, *passed in (
         ("blo*d -count", "*", "-"),
         ("blood AND count", "AND"),
         ('"blood" count', "“ ”"),
         ('blood "count', '"'),
     ):
-        notes = me.ask(query)["notes"]
+        notes = me.ask(query)["said"]
         me.see("Passed over: " in notes and all(f"\u2068{it}\u2069" in notes for it in passed), query, notes)
     got = me.ask("BLOOD AND COUNT")
-    me.see("Passed over" not in got["notes"] and "\u2068and\u2069" in got["facts"], "AND among capitals", got)
+    me.see("Passed over" not in got["said"] and "\u2068and\u2069" in got["facts"], "AND among capitals", got)
     for query, line in (
         ("...", "input: query has no term"),
         ("x" * 4001, "input: query of 4001 bytes"),
@@ -209,13 +210,13 @@ def try_phrases(me: Person) -> None:
         got, phrase = me.ask(query), query.split('"')[1].lower()
         own = [i for i, it in enumerate(texts) if phrase in it.lower()]
         me.see([it["doc"] for it in got["rows"]] == own and len(own) == count, query, got)
-        me.see("each checked" in got["notes"], "what the page found", got["notes"])
+        me.see("each checked" in got["said"], "what the page found", got["said"])
         me.see("every one of these words" in got["verdict"], "what is proved of it", got["verdict"])
     rows = me.ask('"blood count"')["rows"]
     me.see(rows[0]["marks"] == ["blood count"], "a phrase is marked", rows)
     me.visit()
     me.host.act = lambda request, reply: hosts.gone(request, reply) if request.name == "texts" else reply
-    notes = me.ask('"blood pressure"')["notes"]
+    notes = me.ask('"blood pressure"')["said"]
     me.see("did not come" in notes and "may have it too" in notes, "texts that do not come", notes)
 
 
@@ -330,9 +331,9 @@ def try_links(me: Person) -> None:
     me.visit()
     me.do("ask", query=QUERY, root=grown)
     me.run(f"(location.hash = 'root={root}', 0)")
-    me.wait_for("linked")
+    me.wait_for("offer")
     me.see(me.of("root", "value") == grown, "a link does not replace a root that was typed")
-    me.press("use-linked")
+    me.press("take")
     me.see(me.of("root", "value") == root, "the root of the link is taken")
     me.open(f"#root={root}&host=http://127.0.0.1:9", "The link names the host http://127.0.0.1:9")
     me.see("may not ask" in me.of("state"), "a host that the page may not ask", me.of("state"))
@@ -426,7 +427,7 @@ def try_catalog_lies(me: Person) -> None:
         got = me.ask()
         me.see(got["kind"] == "good" and got["rows"], f"a catalog, honest after {about}", got)
     got = me.do("lie")
-    me.see(got["kind"] == "bad" and got["line"].startswith("refused: "), "a lie about a catalog", got)
+    me.see(got["kind"] == "bad" and got["line"].startswith(REFUSED), "a lie about a catalog", got)
 
 
 def try_catalog_growth(me: Person) -> None:
@@ -462,10 +463,10 @@ def try_growth(me: Person) -> None:
     me.see(got["kind"] == "good" and said in got["verdict"], "an answer under the new root", got)
     me.host.folders[1] = me.world.shelves["first"]
     me.open(f"#root={grown.root}")
-    me.shows(me.do("newer"), "a rollback", verdict="✗ The host is behind", take=False)
+    me.shows(me.do("offer"), "a rollback", verdict="✗ The host is behind", take=False)
     me.host.folders[1] = me.world.shelves["newest only"]
     me.visit()
-    got, newer = me.ask(), me.do("newer")
+    got, newer = me.ask(), me.do("offer")
     me.see("Refused" not in got["verdict"] and newer["take"], "only a newer folder is there", (got, newer))
     me.shows(me.stand_before("fork", "first"), "a fork with the growth of another archive", kind="bad", take=False)
     me.see(me.of("root", "value") == first.root, "the root stays")
@@ -536,7 +537,7 @@ def try_changed(me: Person, data: bytes) -> None:
     for at in (start, start + 20, start + size // 2, start + size - 1):
         got = me.file(hosts.flipped(data, at))
         me.shows(got, f"bit {at}", kind="bad", rows=[])
-        me.see(got["line"].startswith("The check’s line: refused: "), f"the line for bit {at}", got)
+        me.see(got["line"].startswith(REFUSED), f"the line for bit {at}", got)
     got = me.file(hosts.flipped(data, words + 120))
     row = next(it for it in got["rows"] if f"{it['doc']}.text" == own)
     me.see("The check’s line: refused: text-root" in row["note"] and not row["text"], "a bit of a text", row)
