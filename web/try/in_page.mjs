@@ -53,14 +53,3 @@ export const fault = (place, it, stopAfter) => timed(place, async source => {
   if (stopAfter) setTimeout(() => stopper.abort(), stopAfter);
   return { word: await asked(source, it, { signal }).then(() => 'none', fault => fault.word ?? fault.name) };
 });
-
-/** Milliseconds of one question for the best documents, with the heads; the worker and the roots are there before. */
-export async function best(place, { root, ...words }, isKept) {
-  if (!isKept) await emptied();
-  const { took } = await timed(place, async source => {
-    const roots = await source.call('roots', { root }), start = performance.now();
-    await asked(source, { call: 'ranked', words: { ...words, roots } });
-    return { took: Math.round(performance.now() - start) };
-  });
-  return took;
-}
